@@ -1,0 +1,4 @@
+pub mod View
+pub mod Signed
+pub mod Buffers
+pub mod Written

@@ -1,0 +1,24 @@
+-- The rules of layouts as definitions that compute: the words they are written in, then the fourteen modules.
+pub mod Limits
+pub mod Lists
+pub mod Buffers
+pub mod RowsInOrder
+pub mod Refusals
+pub mod Layout
+pub mod Record
+pub mod Arguments
+pub mod Endings
+pub mod Shapes
+pub mod Positions
+pub mod Dependencies
+pub mod Lookup
+pub mod CountsAndForms
+pub mod Stretching
+pub mod Removal
+pub mod Union
+pub mod Intersect
+pub mod ContractLastAxis
+pub mod Permute
+pub mod Broadcast
+pub mod Concatenate
+pub mod FilterDepsFrom

@@ -1,0 +1,75 @@
+-- Module 7, removal: dense axes of a sparse layout become listed ones. 14 is never reached: a dense layout is not handed to it.
+use mathlib.Core.Bool.{Bool, not, _&&_}
+use mathlib.Core.List.{List, [], _∷_, _++_, map}
+use Prim.Native.Nat.{ℕ, suc, min, _-_}
+use lib.ListN.{length, getD, take, drop, replicate}
+use lib.Dec.{ltb}
+use Rattle.rules.specs.Lists.{if, none, gather, below}
+use Rattle.rules.specs.RowsInOrder.{sorted}
+use Rattle.rules.specs.Layout.{Layout, rank, isDiagonal, few}
+use Rattle.rules.specs.Dependencies.{onIndex}
+
+-- every index of a shape, in order
+unfoldable pub positions : List ℕ → List (List ℕ)
+positions [] = [] ∷ []
+positions (e ∷ shape) = gather (λ v. map (λ index. v ∷ index) (positions shape)) (below e)
+
+-- the axes before the last ones, of which there are old D less new
+abbrev pub keptAxes : Layout → ℕ → ℕ
+keptAxes l new = rank l - (l .dense - new)
+
+-- the indices of the last axes
+abbrev pub lastPositions : Layout → ℕ → List (List ℕ)
+lastPositions l new = positions (drop (keptAxes l new) (l .shape))
+
+-- each row gets every value on the last axes
+unfoldable pub removedRows : Layout → ℕ → List (List ℕ)
+removedRows l new = gather (λ r. map (λ t. r ++ t) (lastPositions l new)) (l .rows)
+
+-- and so does each dependency
+unfoldable pub removedDeps : Layout → ℕ → List (List ℕ) → List (List ℕ)
+removedDeps l new deps =
+    sorted (gather (λ d. map (λ t. onIndex (λ index. take (keptAxes l new) index ++ t) d) (lastPositions l new)) deps)
+
+-- 12: it lists a row while the new D is above 0
+unfoldable pub listsRow : Layout → ℕ → Bool
+listsRow l new = ltb 0 new && ltb new (l .dense) && not (none (removedRows l new))
+
+unfoldable pub removeDenseAxes : Layout → ℕ → Layout
+removeDenseAxes l new = record {
+  kind = l .kind;
+  dense = new;
+  shape = l .shape;
+  rows = removedRows l new;
+  states = removedDeps l new (l .states);
+  inputs = removedDeps l new (l .inputs);
+}
+
+-- ---- what `union` and `intersect` make of a layout that is not dense
+
+-- a diagonal expands to the rows (i,..,i)
+unfoldable pub expanded : Layout → Layout
+expanded l = record {
+  kind = 2;
+  dense = l .dense;
+  shape = l .shape;
+  rows = map (λ i. replicate (rank l) i) (below (getD (l .shape) 0 0));
+  states = l .states;
+  inputs = l .inputs;
+}
+
+-- diagonals expand, and the larger D is lowered
+unfoldable pub lowered : Layout → ℕ → Layout
+lowered l new = if (isDiagonal l) (expanded l) (if (ltb new (l .dense)) (removeDenseAxes l new) l)
+
+-- the smaller D of two layouts
+abbrev pub lowerD : Layout → Layout → ℕ
+lowerD a b = min (a .dense) (b .dense)
+
+-- 11: a diagonal with dense axes does not expand
+abbrev pub barsExpansion : Layout → Bool
+barsExpansion l = isDiagonal l && ltb 0 (l .dense)
+
+-- 13: an expansion is counted when it is done
+abbrev pub fewOf : Layout → Bool
+fewOf l = few (l .rows) && few (l .states) && few (l .inputs)
