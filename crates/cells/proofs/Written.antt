@@ -12,7 +12,8 @@ use lib.Seq.{take-suc, take-all, length-take-le}
 use lib.Signed.{mag}
 use Rattle.rules.specs.Buffers.{part, over, put, zeros}
 use Rattle.cells.proofs.Signed.{held, back}
-use Rattle.cells.proofs.Buffers.{put-start, put-nil, put-more, put-front, getD-put, length-part, part-more, part-front, zeros-more}
+use Rattle.rules.proofs.Buffers.{length-part, put-nil, put-front, put-more, zeros-more}
+use Rattle.cells.proofs.Buffers.{put-less, getD-put-apart, part-more, part-less}
 
 -- now is old with new written into it from a on
 pub record Written (a : ℕ) (new old now : List ℤ) : Type 0 where
@@ -30,7 +31,7 @@ behind : {a : ℕ} {new old now : List ℤ} → Written a new old now → (n : �
 behind {a} {new} {old} w n z e h = record {
   fits = simp length-append (omega arith);
   size = simp length-set (w .size);
-  is = rw (w .is) (put-more a n new old z e h);
+  is = rw (w .is) (put-more a new old z n e h);
 }
 
 -- one number more, before them
@@ -38,7 +39,7 @@ before : {a : ℕ} {new old now : List ℤ} → Written (suc a) new old now → 
 before {a} {new} {old} w z = record {
   fits = omega arith;
   size = simp length-set (w .size);
-  is = rw (w .is) (put-front a new old z (omega arith));
+  is = rw (w .is) (put-less a new old z (omega arith));
 }
 
 -- `copy`: the first i numbers of src are written
@@ -61,7 +62,7 @@ module _ {src old now : List ℤ} {i : ℕ} (c : Copying src old i now) where
   }
 
   pub copy-done : length src ≤ i → now ≡ over src old
-  copy-done h = c .written .is ∙ rw (take-all i src h) (put-start src old)
+  copy-done h = c .written .is ∙ rw (take-all i src h) (put-front src old)
 
 -- `clear`: the first i numbers are zeros
 pub record Clearing (n : ℕ) (old : List ℤ) (i : ℕ) (now : List ℤ) : Type 0 where
@@ -81,7 +82,7 @@ module _ {n : ℕ} {old now : List ℤ} {i : ℕ} (c : Clearing n old i now) whe
   }
 
   pub clear-done : n ≤ i → now ≡ over (zeros n) old
-  clear-done h = let e : i ≡ n = omega arith in c .written .is ∙ rw e (put-start (zeros n) old)
+  clear-done h = let e : i ≡ n = omega arith in c .written .is ∙ rw e (put-front (zeros n) old)
 
 -- `move_part`: the first i numbers of the part are written
 pub record Moving (from to n : ℕ) (old : List ℤ) (i : ℕ) (now : List ℤ) : Type 0 where
@@ -102,7 +103,7 @@ module _ {from to n : ℕ} {old now : List ℤ} {i : ℕ} (c : Moving from to n 
       let l : length (part from i old) ≡ i = length-part from i old (omega arith) in
       let other : (from + i < to) ⊎ (to + length (part from i old) ≤ from + i) = ⊎-elim (λ r. inl (omega arith)) (λ r. inr (omega arith)) (c .apart) in
       let read : getD now (from + i) (pos 0) ≡ z =
-      ap (λ (t : List ℤ). getD t (from + i) (pos 0)) (c .written .is) ∙ getD-put to (part from i old) old (c .written .fits) (from + i) (pos 0) other in
+      ap (λ (t : List ℤ). getD t (from + i) (pos 0)) (c .written .is) ∙ getD-put-apart to (part from i old) old (omega arith) (from + i) (pos 0) other in
       record {
         upto = omega arith;
         source = c .source;
@@ -133,9 +134,9 @@ shift-step : (e w j : ℕ) (old now : List ℤ) → j < e → e + w ≤ length o
     Written (j + w) (part j (e - j) old) old (set now (j + w) (getD now j (pos 0)))
 shift-step e w j old now h l t =
     let read : getD now j (pos 0) ≡ getD old j (pos 0) =
-    ap (λ (s : List ℤ). getD s j (pos 0)) (t .is) ∙ getD-put (suc j + w) (part (suc j) (e - suc j) old) old (t .fits) j (pos 0) (inl (omega arith)) in
+    ap (λ (s : List ℤ). getD s j (pos 0)) (t .is) ∙ getD-put-apart (suc j + w) (part (suc j) (e - suc j) old) old (omega arith) j (pos 0) (inl (omega arith)) in
     let left : e - j ≡ suc (e - suc j) = omega arith in
-    rw (read, left, ← part-front j (e - suc j) old (pos 0) (omega arith)) (before (rw suc-add at t) (getD old j (pos 0)))
+    rw (read, left, ← part-less j (e - suc j) old (pos 0) (omega arith)) (before (rw suc-add at t) (getD old j (pos 0)))
 
 module _ {a e w : ℕ} {old now : List ℤ} {k : ℕ} (c : Shifting a e w old k now) where
   pub shift-turn : a < k → mag (getD now (k - 1) (pos 0)) < 2 ^ 31 →
