@@ -8,6 +8,7 @@ pub mod Same
 pub mod Sets
 pub mod Sorting
 pub mod Merging
+pub mod Few
 pub mod Places
 pub mod Keeping
 pub mod Buffers

@@ -5,7 +5,7 @@ use Prim.Native.Nat.{ℕ}
 use lib.IntN.{pos}
 use Rattle.rules.specs.Lists.{all, any, keep, gather, none, from, product, sum, largest, same, sameRows, allBelow, with, fitTo}
 use Rattle.rules.specs.Buffers.{part, zeros}
-use Rattle.rules.specs.RowsInOrder.{cmpRows, increasing, insert, sorted}
+use Rattle.rules.specs.RowsInOrder.{cmpRows, increasing, insert, sorted, sortedOnto}
 use Rattle.rules.specs.Refusals.{Verdict, given, refused, inForm, lowest}
 use Rattle.rules.specs.Layout.{Layout, withinProduct, alike, wellFormed, withinSizes, soundLayout, made, encode}
 use Rattle.rules.specs.Record.{entriesFrom, sectionAt, walk, natural, rowsOf, entriesOf, layoutBy, layoutIn, sound, ordered}
@@ -69,7 +69,7 @@ pub record Table : Type 0 where
 
 pub table : Table
 unfolding all any keep gather none from product sum largest same sameRows allBelow with fitTo part
-    cmpRows increasing insert sorted lowest withinProduct alike wellFormed withinSizes soundLayout made encode
+    cmpRows increasing insert sorted sortedOnto lowest withinProduct alike wellFormed withinSizes soundLayout made encode
     entriesFrom sectionAt walk natural rowsOf entriesOf layoutBy layoutIn sound ordered upTo goodComponents
     extents commonShape shapesAgree broadcastShapes ravelIndex onIndex held filterDeps
     readIndex placeFrom placeOf lookup findNnzIndexCall minRankOf toDense denseIfFull dense

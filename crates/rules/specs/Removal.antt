@@ -5,7 +5,7 @@ use Prim.Native.Nat.{ℕ, suc, min, _-_}
 use lib.ListN.{length, getD, take, drop, replicate}
 use lib.Dec.{ltb}
 use Rattle.rules.specs.Lists.{if, none, gather, below}
-use Rattle.rules.specs.RowsInOrder.{sorted}
+use Rattle.rules.specs.RowsInOrder.{sortedFew}
 use Rattle.rules.specs.Layout.{Layout, rank, isDiagonal, few}
 use Rattle.rules.specs.Dependencies.{onIndex}
 
@@ -29,7 +29,7 @@ removedRows l new = gather (λ r. map (λ t. r ++ t) (lastPositions l new)) (l .
 -- and so does each dependency
 unfoldable pub removedDeps : Layout → ℕ → List (List ℕ) → List (List ℕ)
 removedDeps l new deps =
-    sorted (gather (λ d. map (λ t. onIndex (λ index. take (keptAxes l new) index ++ t) d) (lastPositions l new)) deps)
+    sortedFew (gather (λ d. map (λ t. onIndex (λ index. take (keptAxes l new) index ++ t) d) (lastPositions l new)) deps)
 
 -- 12: it lists a row while the new D is above 0
 unfoldable pub listsRow : Layout → ℕ → Bool

@@ -7,7 +7,7 @@ use lib.Dec.{eqb, leb, ltb}
 use lib.IntN.{ℤ}
 use lib.Signed.{nonNeg}
 use Rattle.rules.specs.Lists.{all, keep, gather, below, with, fitTo}
-use Rattle.rules.specs.RowsInOrder.{sorted}
+use Rattle.rules.specs.RowsInOrder.{sorted, sortedFew}
 use Rattle.rules.specs.Refusals.{Verdict, _then_, _when_, lowest}
 use Rattle.rules.specs.Layout.{Layout, rank, width, made}
 use Rattle.rules.specs.Record.{natural, layoutIn, sound, shapeIn, goodShape}
@@ -46,7 +46,7 @@ alone shape axes d = d ∷ gather (λ axis. everyValue shape d axis) axes
 
 unfoldable pub stretchDeps : List ℕ → List ℕ → List (List ℕ) → List (List ℕ)
 stretchDeps old shape deps =
-    sorted (gather (λ d. alone shape (stretchedAxes old shape) (onIndex (fitTo (length shape) 0) d)) deps)
+    sortedFew (gather (λ d. alone shape (stretchedAxes old shape) (onIndex (fitTo (length shape) 0) d)) deps)
 
 -- D grows or shrinks with the rank
 unfoldable pub stretched : Layout → List ℕ → Layout
