@@ -17,11 +17,14 @@ use Rattle.rules.specs.declared.Comparison.{Comparison}
 use Rattle.rules.specs.declared.Comparison.the-variants.{By, Refused as NoComparison}
 use Rattle.rules.specs.declared.Place.{Place}
 use Rattle.rules.specs.declared.Place.the-variants.{Found, Nothing, Refused as NoPlace}
+use Rattle.rules.specs.declared.Step.{Step}
+use Rattle.rules.specs.declared.Step.the-variants.{Done, Refused as NoStep}
 use Rattle.rules.specs.declared.Tuple.{Tuple}
 use Rattle.rules.specs.Limits.{workSize, rankLimit}
 use Rattle.rules.specs.Lists.{if, fitTo}
 use Rattle.rules.specs.Buffers.{over, zeros}
 use Rattle.rules.specs.Refusals.{Verdict, given, refused, inForm, numberOf}
+use Rattle.rules.specs.Layout.{Layout}
 
 -- ---- what each answer says: its values, or the number of its refusal
 
@@ -51,6 +54,11 @@ abbrev pub placeSays : Place → Verdict Lookup
 placeSays (Found n) = given (found n)
 placeSays Nothing = given nothing
 placeSays (NoPlace x) = refused (numberOf x)
+
+-- a step says the layout that it made
+abbrev pub stepSays : Step → Layout → Verdict Layout
+stepSays Done l = given l
+stepSays (NoStep x) l = refused (numberOf x)
 
 -- the four numbers of a shape or an index by value: its own, then zeros; zeros alone where it is refused
 abbrev pub fourOf : Verdict (List ℕ) → List ℕ

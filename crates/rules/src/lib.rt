@@ -64,6 +64,12 @@ pub enum Place {
     Refused(Refusal),
 }
 
+// A step in the working buffer made its layout, or is refused.
+pub enum Step {
+    Done,
+    Refused(Refusal),
+}
+
 // A shape or an index by value: as many of the numbers as the count says, zeros behind them; all zeros where it is refused.
 pub struct Tuple {
     pub count: Number,
