@@ -1,17 +1,31 @@
 -- Laws about the rules, and the table of positions worked by hand.
---     Order, Same, Sets, Sorting, Merging, Places, Keeping    rows in order, and sets of them
---     Buffers, Writes                                         parts of a slice, and what was written there
---     Determined                                              two outcomes that a contract allows are equal
---     WorkedByHand                                            the table
+--     Order, Same, Sets, Sorting, Merging, Places, Keeping, Few    rows in order, and sets of them
+--     Buffers, Writes                                              parts of a slice, and what was written there
+--     Tests, Soundness, Extents                                    what a sound layout is, part by part
+--     Ranges, Indices                                              every index of a shape, in order
+--     Before, Alike, Held, Finding, Found, Counting                what is held, found and counted
+--     Determined                                                   two outcomes that a contract allows are equal
+--     WorkedByHand                                                 the table
 pub mod Order
 pub mod Same
 pub mod Sets
 pub mod Sorting
 pub mod Merging
-pub mod Few
 pub mod Places
 pub mod Keeping
+pub mod Few
 pub mod Buffers
 pub mod Writes
+pub mod Tests
+pub mod Soundness
+pub mod Extents
+pub mod Ranges
+pub mod Indices
+pub mod Before
+pub mod Alike
+pub mod Held
+pub mod Finding
+pub mod Found
+pub mod Counting
 pub mod Determined
 pub mod WorkedByHand

@@ -1,0 +1,68 @@
+-- Numbers that are all equal, and the positions of a diagonal. Assumes nothing.
+use mathlib.Core.Path.{_≡_, refl, sym, ap}
+use mathlib.Core.Bool.{true}
+use mathlib.Core.List.{List, [], _∷_}
+use Prim.Native.Nat.{ℕ, zero, suc, _<_, _≤_}
+use native.Mathlib.Omega.{arith}
+use borrow.Author.Tests.{eqb-true, eq-eqb, lt-ltb}
+use lib.Dec.{eqb}
+use lib.ListN.{length, getD, replicate}
+use Rattle.rules.specs.declared.Ordering.the-variants.{Less}
+use Rattle.rules.specs.Lists.{all, allBelow}
+use Rattle.rules.specs.RowsInOrder.{cmpRows}
+use Rattle.rules.specs.Layout.{alike}
+use Rattle.rules.proofs.Order.{cons-less}
+use Rattle.rules.proofs.Same.{both-true}
+use Rattle.rules.proofs.Tests.{true-both, all-at}
+
+-- numbers that all test as v are v, over and over
+pub all-replicate : (v : ℕ) (l : List ℕ) → all (eqb v) l ≡ true → l ≡ replicate (length l) v
+unfolding all
+all-replicate v [] e = refl
+all-replicate v (x ∷ l) e =
+    let h = both-true (eqb v x) (all (eqb v) l) e in
+    let rest = all-replicate v l (h .1) in
+    let first : v ≡ x = eqb-true v x (h .0) in
+    cc
+
+-- v, over and over, tests as v
+pub replicate-all : (v n : ℕ) → all (eqb v) (replicate n v) ≡ true
+unfolding all
+replicate-all v zero = refl
+replicate-all v (suc n) = true-both (eq-eqb v v refl) (replicate-all v n)
+
+-- numbers that are alike are the first one, over and over
+pub alike-replicate : (l : List ℕ) → alike l ≡ true → l ≡ replicate (length l) (getD l 0 0)
+unfolding alike
+alike-replicate [] e = refl
+alike-replicate (x ∷ l) e = ap (λ (m : List ℕ). x ∷ m) (all-replicate x l e)
+
+-- numbers that are alike test as the first one
+pub alike-all : (l : List ℕ) → alike l ≡ true → all (eqb (getD l 0 0)) l ≡ true
+unfolding alike all
+alike-all [] e = refl
+alike-all (x ∷ l) e = true-both (eq-eqb x x refl) e
+
+-- numbers that are alike are each the first one
+pub alike-at : (l : List ℕ) → alike l ≡ true → (k : ℕ) → k < length l → getD l k 0 ≡ getD l 0 0
+alike-at l e k h = sym (eqb-true (getD l 0 0) (getD l k 0) (all-at (eqb (getD l 0 0)) l 0 (alike-all l e) k h))
+
+-- one number, over and over, is alike
+pub replicate-alike : (n v : ℕ) → alike (replicate n v) ≡ true
+unfolding alike
+replicate-alike zero v = refl
+replicate-alike (suc n) v = replicate-all v n
+
+-- a number below an extent, over and over, is below a shape of that extent
+pub replicate-below : (n e v : ℕ) (shape : List ℕ) → all (eqb e) shape ≡ true → v < e → allBelow (replicate n v) shape ≡ true
+unfolding all allBelow
+replicate-below zero e v shape a h = refl
+replicate-below (suc n) e v [] a h = refl
+replicate-below (suc n) e v (x ∷ shape) a h =
+    let k = both-true (eqb e x) (all (eqb e) shape) a in
+    true-both (lt-ltb v x (omega (arith, eqb-true e x (k .0)))) (replicate-below n e v shape (k .1) h)
+
+-- the position of a smaller number on a diagonal is less
+pub replicate-less : (n : ℕ) → 1 ≤ n → (i j : ℕ) → i < j → cmpRows (replicate n i) (replicate n j) ≡ Less
+replicate-less zero l i j h = absurd (omega arith)
+replicate-less (suc n) l i j h = cons-less (replicate n i) (replicate n j) h

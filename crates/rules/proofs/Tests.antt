@@ -1,0 +1,66 @@
+-- What tests over lists tell, and how one is shown to hold. Assumes nothing.
+use mathlib.Core.Path.{_≡_, refl, ap, _∙_}
+use mathlib.Core.Bool.{Bool, true, false, _&&_, _||_}
+use mathlib.Core.List.{List, [], _∷_, List·Memᴰ, List·Memᴰ·head, List·Memᴰ·tail}
+use Prim.Native.Nat.{ℕ, zero, suc, _<_}
+use native.Mathlib.Omega.{arith}
+use lib.ListN.{length, getD}
+use Rattle.rules.specs.Lists.{implies, all, none}
+use Rattle.rules.proofs.Same.{both-true}
+
+-- ---- tests in a row
+
+-- a test and those that follow it all hold
+abbrev pub conjoined : Bool → List Bool → Bool
+conjoined a [] = a
+conjoined a (b ∷ rest) = conjoined (a && b) rest
+
+-- where all of them hold, number k does
+pub conjunct : (a : Bool) (rest : List Bool) → conjoined a rest ≡ true → (k : ℕ) → getD (a ∷ rest) k true ≡ true
+conjunct a [] e zero = e
+conjunct a [] e (suc k) = refl
+conjunct a (b ∷ rest) e zero = both-true a b (conjunct (a && b) rest e zero) .0
+conjunct a (b ∷ rest) e (suc zero) = both-true a b (conjunct (a && b) rest e zero) .1
+conjunct a (b ∷ rest) e (suc (suc k)) = conjunct (a && b) rest e (suc k)
+
+-- two tests hold, if each one does
+pub true-both : {a b : Bool} → a ≡ true → b ≡ true → a && b ≡ true
+true-both e f = rw (e, f)
+
+-- a test follows from another, if it holds where that one does
+pub true-implies : (a b : Bool) → (a ≡ true → b ≡ true) → implies a b ≡ true
+true-implies true b f = f refl
+true-implies false b f = refl
+
+-- one of two tests holds, if the second does where the first fails
+pub true-either : (a b : Bool) → (a ≡ false → b ≡ true) → a || b ≡ true
+true-either true b f = refl
+true-either false b f = f refl
+
+-- ---- a test of every element
+
+-- a list that tests as empty is empty
+pub none-true : {A : Type 0} {l : List A} → none l ≡ true → l ≡ []
+unfolding none
+none-true {l = []} e = refl
+none-true {l = x ∷ l} e = cc
+
+module _ {A : Type 0} (test : A → Bool) where
+  -- where all elements pass, each one does
+  pub all-each : {l : List A} → all test l ≡ true → (x : A) → List·Memᴰ x l → test x ≡ true
+  unfolding all
+  all-each e x (List·Memᴰ·head {x = y} {xs = l} d) = ap test d ∙ both-true (test y) (all test l) e .0
+  all-each e x (List·Memᴰ·tail {x = y} {xs = l} m) = all-each (both-true (test y) (all test l) e .1) x m
+
+  -- where each element passes, all do
+  pub each-all : (l : List A) → ((x : A) → List·Memᴰ x l → test x ≡ true) → all test l ≡ true
+  unfolding all
+  each-all [] f = refl
+  each-all (x ∷ l) f = true-both (f x (List·Memᴰ·head refl)) (each-all l (λ y m. f y (List·Memᴰ·tail m)))
+
+  -- where all elements pass, the one at an index does
+  pub all-at : (l : List A) (d : A) → all test l ≡ true → (k : ℕ) → k < length l → test (getD l k d) ≡ true
+  unfolding all
+  all-at [] d e k h = absurd (omega arith)
+  all-at (x ∷ l) d e zero h = both-true (test x) (all test l) e .0
+  all-at (x ∷ l) d e (suc k) h = all-at l d (both-true (test x) (all test l) e .1) k (omega arith)
