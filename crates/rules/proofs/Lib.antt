@@ -4,6 +4,7 @@
 --     Tests, Soundness, Extents                                    what a sound layout is, part by part
 --     Ranges, Indices                                              every index of a shape, in order
 --     Before, Alike, Held, Finding, Found, Counting                what is held, found and counted
+--     Made, Once, Lowering, Listed, Unions, Low                    the union of two sound layouts by plain cases
 --     Determined                                                   two outcomes that a contract allows are equal
 --     WorkedByHand                                                 the table
 pub mod Order
@@ -27,5 +28,11 @@ pub mod Held
 pub mod Finding
 pub mod Found
 pub mod Counting
+pub mod Made
+pub mod Once
+pub mod Lowering
+pub mod Listed
+pub mod Unions
+pub mod Low
 pub mod Determined
 pub mod WorkedByHand

@@ -1,0 +1,79 @@
+-- How large the numbers of rows and of dependencies are. Assumes nothing.
+use mathlib.Core.Path.{_≡_, subst}
+use mathlib.Core.Bool.{true}
+use mathlib.Core.List.{List, [], _∷_}
+use Prim.Native.Nat.{ℕ, zero, suc, _^_, _≤_, _<_}
+use native.Mathlib.Omega.{arith}
+use borrow.Author.Tests.{ltb-true}
+use lib.Dec.{ltb}
+use lib.ListN.{length, getD, List·getD-eq-default}
+use Rattle.rules.specs.Limits.{productLimit}
+use Rattle.rules.specs.Lists.{allBelow}
+use Rattle.rules.specs.RowsInOrder.{merge}
+use Rattle.rules.specs.Refusals.{given}
+use Rattle.rules.specs.Layout.{Layout, rank}
+use Rattle.rules.specs.Union.{withMerged, union}
+use Rattle.rules.proofs.Order.{ComparedNumbers, under, even, above, compareNumbers}
+use Rattle.rules.proofs.Same.{both-true}
+use Rattle.rules.proofs.Sets.{Each, each-append}
+use Rattle.rules.proofs.Sorting.{sorted-each}
+use Rattle.rules.proofs.Soundness.{WithinSizes, Sound}
+use Rattle.rules.proofs.Extents.{extent-limited}
+use Rattle.rules.proofs.Made.{made-sound}
+use Rattle.rules.proofs.Lowering.{Lowered}
+use Rattle.rules.proofs.Unions.{union-made}
+
+-- every number of every row is below n
+abbrev pub Low : ℕ → List (List ℕ) → Type 0
+Low n t = Each (λ r. (k : ℕ) → getD r k 0 < n) t
+
+-- ---- rows
+
+-- a number of a row is below its extent, if the row tests so
+pub below-at : (r shape : List ℕ) → allBelow r shape ≡ true → (k : ℕ) → k < length r → k < length shape → getD r k 0 < getD shape k 0
+unfolding allBelow
+below-at [] shape e k h i = absurd (omega arith)
+below-at (c ∷ r) [] e k h i = absurd (omega arith)
+below-at (c ∷ r) (n ∷ shape) e zero h i = ltb-true c n (both-true (ltb c n) (allBelow r shape) e .0)
+below-at (c ∷ r) (n ∷ shape) e (suc k) h i = below-at r shape (both-true (ltb c n) (allBelow r shape) e .1) k (omega arith) (omega arith)
+
+-- the numbers of a row that is below the extents of a sound layout are below 65,536
+row-low : {l : Layout} → WithinSizes l → (r : List ℕ) → length r ≤ rank l → allBelow r (l .shape) ≡ true → (k : ℕ) → getD r k 0 < productLimit
+row-low {l} w r h e k = go (compareNumbers k (length r))
+  where
+    past : length r ≤ k → getD r k 0 < productLimit
+    past g = omega (arith, List·getD-eq-default r 0 g)
+
+    go : ComparedNumbers k (length r) → getD r k 0 < productLimit
+    go (under g) = omega (arith, below-at r (l .shape) e k g (omega arith), extent-limited w k)
+    go (even g) = past (omega arith)
+    go (above g) = past (omega arith)
+
+-- the numbers of the rows of a sound layout are
+pub rows-low : {l : Layout} → Sound l → Low productLimit (l .rows)
+rows-low {l} s r m = row-low (s .sizes) r (omega (arith, s .form .row-lengths r m)) (s .form .rows-below r m)
+
+-- and so are those of its rows with a smaller D
+pub lowered-low : {l x : Layout} {d : ℕ} → Sound l → Lowered l x d → Low productLimit (x .rows)
+lowered-low {l} s p r m = row-low (s .sizes) r (omega (arith, p .row-lengths r m)) (p .rows-below r m)
+
+-- rows of two such lists, merged, are such
+pub merged-low : {n : ℕ} {s t : List (List ℕ)} → Low n s → Low n t → Low n (merge s t)
+merged-low f g = sorted-each (each-append f g)
+
+-- ---- dependencies
+
+-- every number of every dependency is below 2 ^ 31
+pub record DepsLow (l : Layout) : Type 0 where
+  pub states-low : Low (2 ^ 31) (l .states)
+  pub inputs-low : Low (2 ^ 31) (l .inputs)
+
+-- merged dependencies of two such layouts are such
+pub merged-deps-low : {a b : Layout} (l : Layout) → DepsLow a → DepsLow b → DepsLow (withMerged a b l)
+merged-deps-low l p q = record { states-low = merged-low (p .states-low) (q .states-low); inputs-low = merged-low (p .inputs-low) (q .inputs-low) }
+
+-- and so are those of their union
+pub union-low : {a b l : Layout} → DepsLow a → DepsLow b → union a b ≡ given l → DepsLow l
+union-low {a} {b} p q e =
+    let m = union-made a b e in
+    subst DepsLow (made-sound (m .1) .0) (merged-deps-low (m .0) p q)

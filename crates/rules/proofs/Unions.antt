@@ -1,0 +1,203 @@
+-- Which answer `union` gives of two sound layouts, case by case. Assumes nothing.
+use mathlib.Core.Path.{_≡_, refl, ap, _∙_, subst}
+use mathlib.Core.Bool.{Bool, true, false, not, _&&_, _||_}
+use mathlib.Core.List.{List, [], _∷_, _++_}
+use Prim.Native.Nat.{ℕ, _≤_}
+use native.Mathlib.Omega.{arith}
+use borrow.Author.Tests.{leb-false, lt-leb, eqb-false}
+use lib.ListN.{length}
+use Rattle.rules.specs.Lists.{if, same}
+use Rattle.rules.specs.RowsInOrder.{sorted, merge}
+use Rattle.rules.specs.Refusals.{given, refused, _then_, _when_, lowest}
+use Rattle.rules.specs.Layout.{Layout, rank, isDense, few, withDeps, made}
+use Rattle.rules.specs.CountsAndForms.{toDense}
+use Rattle.rules.specs.Removal.{lowered, lowerD, listsRow, barsExpansion}
+use Rattle.rules.specs.Union.{withMerged, alikeDiagonals, joined, unionOfRows, union}
+use Rattle.rules.proofs.Same.{true-not-false, same-true}
+use Rattle.rules.proofs.Sets.{each-nil, each-append}
+use Rattle.rules.proofs.Sorting.{sorted-each, sorted-sorted}
+use Rattle.rules.proofs.Merging.{merge-length-left, merge-length-right}
+use Rattle.rules.proofs.Soundness.{Sound}
+use Rattle.rules.proofs.Once.{Once, once-distinct}
+use Rattle.rules.proofs.Made.{fewOr, Formed, sound-formed, formed-made, made-sound, formed-merged}
+use Rattle.rules.proofs.Lowering.{Lowered, lowered-is}
+
+-- where neither of two tests holds, each one fails
+neither : (s t : Bool) → s || t ≡ false → (s ≡ false) × (t ≡ false)
+neither true t e = absurd (true-not-false refl e)
+neither false t e = (refl, e)
+
+-- no refusal is an answer
+never : {A : Type 0} {n : ℕ} {x : A} → refused n ≡ given x → ⊥
+never e = let z : _≡_ {A = ℕ} 0 1 = cc in omega arith
+
+-- ---- layouts that are made
+
+-- the dense layout of a sound one is formed
+pub dense-formed : {l : Layout} → Sound l → Formed (toDense l)
+unfolding toDense sorted
+dense-formed {l} s = record {
+  form = record {
+    kind-most = omega arith;
+    dense-most = omega arith;
+    rank-most = s .form .rank-most;
+    sparse-rows = λ _. refl;
+    rows-distinct = refl;
+    row-lengths = each-nil _;
+    rows-below = each-nil _;
+    dense-all = λ _. refl;
+    diagonal-wide = λ k. omega arith;
+    diagonal-alike = λ k. absurd (omega arith);
+    states-fit = record { lengths = s .form .states-fit .lengths; increase = s .form .states-fit .increase };
+    inputs-fit = record { lengths = s .form .inputs-fit .lengths; increase = s .form .inputs-fit .increase };
+  };
+  product-most = s .sizes .product-most;
+  states-small = s .sizes .states-small;
+  inputs-small = s .sizes .inputs-small;
+}
+
+-- the rows of two layouts of one shape and D joined are formed, with the dependencies of a sound one
+pub joined-formed : {a b x y : Layout} {d : ℕ} → Sound a → a .shape ≡ b .shape → d ≤ a .dense → Lowered a x d → Lowered b y d →
+    Formed (withDeps (a .states) (a .inputs) (joined x y))
+joined-formed {a} {b} {x} {y} {d} s e h p q = record {
+  form = record {
+    kind-most = omega arith;
+    dense-most = rw (p .dense-is, p .shape-is) (omega arith);
+    rank-most = rw (p .shape-is) (s .form .rank-most);
+    sparse-rows = λ n. absurd (n refl);
+    rows-distinct = ap length (sorted-sorted (x .rows ++ y .rows));
+    row-lengths = rw (p .dense-is, p .shape-is) (sorted-each (each-append (p .row-lengths) (rw e (q .row-lengths))));
+    rows-below = rw (p .shape-is) (sorted-each (each-append (p .rows-below) (rw e (q .rows-below))));
+    dense-all = λ k. absurd (omega arith);
+    diagonal-wide = λ k. absurd (omega arith);
+    diagonal-alike = λ k. absurd (omega arith);
+    states-fit = record { lengths = rw (p .shape-is) (s .form .states-fit .lengths); increase = s .form .states-fit .increase };
+    inputs-fit = record { lengths = rw (p .shape-is) (s .form .inputs-fit .lengths); increase = s .form .inputs-fit .increase };
+  };
+  product-most = rw (p .shape-is) (s .sizes .product-most);
+  states-small = rw (p .shape-is) (s .sizes .states-small);
+  inputs-small = rw (p .shape-is) (s .sizes .inputs-small);
+}
+
+-- ---- how many rows are joined
+
+-- joined, rows that do not come again pass the limit where those of one list do
+few-joined : {x y : List (List ℕ)} → Once x → Once y → few x && few y ≡ false → few (merge x y) ≡ false
+few-joined {x} {y} p q e = go (few x) (few y) refl refl e
+  where
+    left : length x ≤ length (merge x y)
+    left = rw (once-distinct p) at (merge-length-left x y)
+
+    right : length y ≤ length (merge x y)
+    right = rw (once-distinct q) at (merge-length-right x y)
+
+    go : (s t : Bool) → few x ≡ s → few y ≡ t → s && t ≡ false → few (merge x y) ≡ false
+    go true true f g h = absurd (true-not-false refl h)
+    go true false f g h = lt-leb (length (merge x y)) 128 (omega (arith, leb-false (length y) 128 g, right))
+    go false t f g h = lt-leb (length (merge x y)) 128 (omega (arith, leb-false (length x) 128 f, left))
+
+-- ---- the answer, case by case
+
+-- shapes disagree: 6
+pub union-shapes : (a b : Layout) → same (a .shape) (b .shape) ≡ false → union a b ≡ refused 6
+unfolding union lowest
+union-shapes a b e = rw e
+
+module _ {a b : Layout} (p : Sound a) (q : Sound b) (e : same (a .shape) (b .shape) ≡ true) where
+  -- the ranks are equal
+  ranks : rank a ≡ rank b
+  ranks = ap length (same-true e)
+
+  -- one of them is dense: so is the union
+  pub union-dense : isDense a || isDense b ≡ true → union a b ≡ fewOr (withMerged a b (toDense a))
+  unfolding union lowest toDense
+  union-dense f = rw (e, f) (formed-made (formed-merged p q refl ranks (dense-formed p)))
+
+  -- two diagonals with equal D: so is the union
+  pub union-diagonals : isDense a || isDense b ≡ false → alikeDiagonals a b ≡ true → union a b ≡ fewOr (withMerged a b a)
+  unfolding union lowest
+  union-diagonals f g = rw (e, f, g) (formed-made (formed-merged p q refl ranks (sound-formed p)))
+
+  -- otherwise the rows are joined
+  by-rows : isDense a || isDense b ≡ false → alikeDiagonals a b ≡ false → union a b ≡ unionOfRows a b
+  unfolding union lowest
+  by-rows f g = rw (e, f, g)
+
+  -- a diagonal with dense axes does not expand: 11
+  pub union-bars : isDense a || isDense b ≡ false → alikeDiagonals a b ≡ false →
+      barsExpansion a || barsExpansion b ≡ true → union a b ≡ refused 11
+  unfolding unionOfRows lowest
+  union-bars f g h = rw (by-rows f g, h)
+
+  -- a row is listed while the new D is above 0: 12
+  pub union-lists : isDense a || isDense b ≡ false → alikeDiagonals a b ≡ false →
+      barsExpansion a || barsExpansion b ≡ false → listsRow a (lowerD a b) || listsRow b (lowerD a b) ≡ true → union a b ≡ refused 12
+  unfolding unionOfRows lowest
+  union-lists f g h i = rw (by-rows f g, h, i)
+
+  -- the rows of both, lowered to the smaller D, joined
+  pub union-rows : isDense a || isDense b ≡ false → alikeDiagonals a b ≡ false →
+      barsExpansion a || barsExpansion b ≡ false → listsRow a (lowerD a b) || listsRow b (lowerD a b) ≡ false →
+      union a b ≡ fewOr (withMerged a b (joined (lowered a (lowerD a b)) (lowered b (lowerD a b))))
+  unfolding unionOfRows lowest
+  union-rows f g h i = rw (by-rows f g, h, i) (judged (few (x .rows) && few (y .rows)) refl)
+    where
+      x : Layout
+      x = lowered a (lowerD a b)
+
+      y : Layout
+      y = lowered b (lowerD a b)
+
+      plain : (isDense a ≡ false) × (isDense b ≡ false)
+      plain = neither (isDense a) (isDense b) f
+
+      free : (barsExpansion a ≡ false) × (barsExpansion b ≡ false)
+      free = neither (barsExpansion a) (barsExpansion b) h
+
+      bare : (listsRow a (lowerD a b) ≡ false) × (listsRow b (lowerD a b) ≡ false)
+      bare = neither (listsRow a (lowerD a b)) (listsRow b (lowerD a b)) i
+
+      left : Lowered a x (lowerD a b)
+      left = lowered-is (p .form) (eqb-false (a .kind) 0 (plain .0)) (omega arith) (free .0) (bare .0)
+
+      right : Lowered b y (lowerD a b)
+      right = lowered-is (q .form) (eqb-false (b .kind) 0 (plain .1)) (omega arith) (free .1) (bare .1)
+
+      judged : (t : Bool) → few (x .rows) && few (y .rows) ≡ t →
+          (lowest (13 when not t ∷ []) then λ _. made (withMerged a b (joined x y))) ≡ fewOr (withMerged a b (joined x y))
+      judged true k = formed-made (formed-merged p q (ap length (left .shape-is)) (ap length (left .shape-is) ∙ ranks) (joined-formed p (same-true e) (omega arith) left right))
+      judged false k = rw (few-joined (left .rows-once) (right .rows-once) k)
+
+-- ---- what is given
+
+-- an answer is a layout with the merged dependencies that was made
+pub union-made : (a b : Layout) {l : Layout} → union a b ≡ given l → (x : Layout) × (made (withMerged a b x) ≡ given l)
+unfolding union unionOfRows lowest
+union-made a b {l} e = whole (same (a .shape) (b .shape)) (isDense a || isDense b) (alikeDiagonals a b) e
+  where
+    d : ℕ
+    d = lowerD a b
+
+    rows : Layout
+    rows = joined (lowered a d) (lowered b d)
+
+    by-rows : (s t u : Bool) → (lowest (11 when s ∷ 12 when t ∷ 13 when u ∷ []) then λ _. made (withMerged a b rows)) ≡ given l →
+        (x : Layout) × (made (withMerged a b x) ≡ given l)
+    by-rows true t u e = absurd (never e)
+    by-rows false true u e = absurd (never e)
+    by-rows false false true e = absurd (never e)
+    by-rows false false false e = (rows, e)
+
+    whole : (s t u : Bool) → (lowest (6 when not s ∷ []) then λ _. if t (made (withMerged a b (toDense a))) (if u (made (withMerged a b a)) (unionOfRows a b))) ≡ given l →
+        (x : Layout) × (made (withMerged a b x) ≡ given l)
+    whole false t u e = absurd (never e)
+    whole true true u e = (toDense a, e)
+    whole true false true e = (a, e)
+    whole true false false e = by-rows (barsExpansion a || barsExpansion b) (listsRow a d || listsRow b d) (not (few (lowered a d .rows) && few (lowered b d .rows))) e
+
+-- an answer is sound
+pub union-sound : (a b : Layout) {l : Layout} → union a b ≡ given l → Sound l
+union-sound a b e =
+    let m = union-made a b e in
+    let s = made-sound (m .1) in
+    subst Sound (s .0) (s .1)
