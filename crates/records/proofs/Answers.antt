@@ -1,0 +1,232 @@
+-- `sound_by`, `sound`, `ordered` and `row`: what is answered about a record. Assumes nothing.
+use mathlib.Core.Path.{_≡_, refl, sym, ap, _∙_}
+use mathlib.Core.Bool.{Bool, true, false, not, and-false}
+use mathlib.Core.List.{List, [], map}
+use Prim.Native.Nat.{ℕ, zero, suc, min, _+_, _*_, _-_, _^_, _<_, _≤_}
+use native.Mathlib.Omega.{arith}
+use borrow.Author.Tests.{leb-false, lt-leb, not-true, not-false, lt-ltb, le-ltb}
+use lib.Dec.{leb}
+use lib.IntN.{ℤ, pos, negsuc}
+use lib.ListN.{length, take, drop, length-replicate, length-map}
+use lib.Signed.{mag, nonNeg}
+use Rattle.rules.specs.declared.Head.{Head}
+use Rattle.rules.specs.declared.Walk.{Walk}
+use Rattle.rules.specs.declared.Walk.the-variants.{To, Broken}
+use Rattle.rules.specs.Lists.{all}
+use Rattle.rules.specs.Buffers.{part}
+use Rattle.rules.specs.RowsInOrder.{increasing}
+use Rattle.rules.specs.Layout.{wellFormed, withinSizes, soundLayout}
+use Rattle.rules.specs.Record.{walk, natural, rowsOf, entriesOf, layoutBy, layoutIn, soundFrom, sound, ordered, rowPart, row}
+use Rattle.rules.proofs.Same.{true-not-false}
+use Rattle.rules.proofs.Buffers.{length-part}
+use Rattle.cells.specs.declared.Sign.{Sign}
+use Rattle.cells.specs.declared.Sign.the-variants.{Natural, Negative}
+use Rattle.cells.specs.View.{view, Low, signOf}
+use Rattle.cells.proofs.Signed.{held, back}
+use Rattle.tables.specs.Rows.{rowsAt, HasRows}
+use Rattle.records.specs.Heads.{HeadOf}
+use Rattle.records.specs.Judging.{Plain, PlainRecord, fewEntries}
+use Rattle.records.proofs.Sections.{sign-natural}
+use Rattle.records.proofs.Walks.{walked-head, one-head}
+use Rattle.records.proofs.RowTests.{row-room}
+use Rattle.records.proofs.InTurn.{first-fails, first-holds}
+use Rattle.records.proofs.Layouts.{rows-room, layout-seen, has-rows-there}
+
+-- ---- a record of too many entries is not sound
+
+-- there are as many rows as asked for
+rows-length : (w n : ℕ) (l : List ℕ) → length (rowsOf w n l) ≡ n
+unfolding rowsOf
+rows-length w zero l = refl
+rows-length w (suc n) l = ap suc (rows-length w n (drop w l))
+
+-- too many entries are counted as too many
+entries-many : (w n : ℕ) (l : List ℕ) → leb n 128 ≡ false → leb (length (entriesOf w n l)) 128 ≡ false
+unfolding entriesOf
+entries-many zero n l e = let many = leb-false n 128 e in rw length-replicate (lt-leb (min n 129) 128 (omega arith))
+entries-many (suc w) n l e = rw (rows-length (suc w) n l) e
+
+-- the rank of the layout is that of the record
+rank-read : {h : Head} {s : List ℤ} → HeadOf h s → length (map natural (part 3 (h .rank) s)) ≡ h .rank
+rank-read {h} {s} g = length-map (part 3 (h .rank) s) natural ∙ length-part 3 (h .rank) s (omega (arith, g .rows))
+
+module _ {h : Head} {s : List ℤ} (g : HeadOf h s) where
+  -- too many axes
+  many-axes : leb (h .rank) 4 ≡ false → soundLayout (layoutBy h s) ≡ false
+  unfolding soundLayout wellFormed layoutBy
+  many-axes e = let f : leb (length (map natural (part 3 (h .rank) s))) 4 ≡ false = rw (rank-read g) e in simp (f, and-false)
+
+  -- too many rows
+  many-rows : leb (h .rows .count) 128 ≡ false → soundLayout (layoutBy h s) ≡ false
+  unfolding soundLayout withinSizes layoutBy
+  many-rows e = simp (entries-many (h .width) (h .rows .count) (map natural (drop (h .rows .first) s)) e, and-false)
+
+  -- too many dependencies on states
+  many-states : leb (h .states .count) 128 ≡ false → soundLayout (layoutBy h s) ≡ false
+  unfolding soundLayout withinSizes layoutBy
+  many-states e = simp (entries-many (suc (h .rank)) (h .states .count) (map natural (drop (h .states .first) s)) e, and-false)
+
+  -- too many on inputs
+  many-inputs : leb (h .inputs .count) 128 ≡ false → soundLayout (layoutBy h s) ≡ false
+  unfolding soundLayout withinSizes layoutBy
+  many-inputs e = simp (entries-many (suc (h .rank)) (h .inputs .count) (map natural (drop (h .inputs .first) s)) e, and-false)
+
+  -- too many of any
+  many-entries : fewEntries h ≡ false → soundLayout (layoutBy h s) ≡ false
+  unfolding fewEntries
+  many-entries e = by (leb (h .rank) 4) refl (leb (h .rows .count) 128) refl (leb (h .states .count) 128) refl (leb (h .inputs .count) 128) refl
+    where
+      by : (a : Bool) → leb (h .rank) 4 ≡ a → (b : Bool) → leb (h .rows .count) 128 ≡ b → (c : Bool) → leb (h .states .count) 128 ≡ c →
+          (d : Bool) → leb (h .inputs .count) 128 ≡ d → soundLayout (layoutBy h s) ≡ false
+      by false p b q c r d t = many-axes p
+      by true p false q c r d t = many-rows q
+      by true p true q false r d t = many-states r
+      by true p true q true r false t = many-inputs t
+      by true p true q true r true t = absurd (true-not-false (rw (p, q, r, t)) e)
+
+-- ---- a walked record: `sound_by`
+
+module _ {h : Head} {s : List ℤ} (g : HeadOf h s) {t₁ : Bool} (e₁ : t₁ ≡ fewEntries h) where
+  -- it has too many entries
+  pub too-many : not t₁ ≡ true → false ≡ soundFrom (To h) s
+  too-many f = sym (rw (many-entries g (sym e₁ ∙ not-true t₁ f)) (and-false (all nonNeg (take (h .inputs .next) s))))
+
+  module _ (f₁ : not t₁ ≡ false) {t₂ : Bool} where
+    -- it is plain
+    pub is-plain : (t₂ ≡ true → Low (take (h .inputs .next) (view s))) → not t₂ ≡ false → Plain h s
+    is-plain low f = record { head = g; few = sym e₁ ∙ not-false t₁ f₁; low = low (not-false t₂ f) }
+
+module _ (h : Head) (s : List ℤ) {t : Bool} (e : t ≡ all nonNeg (take (h .inputs .next) s)) where
+  -- it has a negative number
+  pub is-negative : not t ≡ true → false ≡ soundFrom (To h) s
+  is-negative f = first-fails (soundLayout (layoutBy h s)) e f
+
+  module _ (f : not t ≡ false) {u : Bool} (d : u ≡ wellFormed (layoutBy h s)) where
+    -- it breaks a rule other than size
+    pub is-deformed : not u ≡ true → false ≡ soundFrom (To h) s
+    unfolding soundLayout
+    is-deformed k = first-fails (withinSizes (layoutBy h s)) d k ∙ sym (first-holds e f)
+
+    -- it breaks no such rule
+    pub by-size : {v : Bool} → not u ≡ false → v ≡ withinSizes (layoutBy h s) → v ≡ soundFrom (To h) s
+    unfolding soundLayout
+    by-size k q = q ∙ sym (first-holds e f ∙ first-holds d k)
+
+pub ruleset judged = (too-many, is-plain, is-negative, is-deformed, by-size)
+
+-- ---- any record: `sound`
+
+module _ (s : List ℤ) {r : Walk} (e : r ≡ walk s) where
+  -- it cannot be walked
+  pub sound-broken : r ≡ Broken → false ≡ sound s
+  unfolding sound
+  sound-broken f = rw (sym e ∙ f)
+
+  module _ {h : Head} (f : r ≡ To h) where
+    -- the head that was read is its head
+    pub head-read : HeadOf h s
+    head-read = walked-head s (sym e ∙ f)
+
+    -- it is sound by that head
+    pub sound-walked : {t : Bool} → t ≡ soundFrom (To h) s → t ≡ sound s
+    unfolding sound
+    sound-walked q = rw (sym e ∙ f) q
+
+    -- and plain, if it is plain by that head
+    pub plain-record : Plain h s → PlainRecord s
+    plain-record p k q = rw (one-head (sym q ∙ sym e ∙ f)) p
+
+pub ruleset walked = (sound-broken, head-read, sound-walked)
+
+-- ---- its order: `ordered`
+
+module _ (s : List ℤ) {t : Bool} (e : t ≡ sound s) where
+  -- it is not sound
+  pub unsound-order : not t ≡ true → false ≡ ordered s
+  unfolding ordered
+  unsound-order f = first-fails (increasing (layoutIn s .rows)) e f
+
+  -- it cannot be walked
+  pub broken-order : {r : Walk} → r ≡ walk s → r ≡ Broken → false ≡ ordered s
+  unfolding ordered
+  broken-order q f = rw (← sound-broken s q f)
+
+module _ (s : List ℤ) {t : Bool} {r : Walk} {h : Head} (p : t ≡ true → PlainRecord s) (f : not t ≡ false) (q : r ≡ walk s) (g : r ≡ To h) where
+  -- a sound record is plain
+  pub sound-plain : Plain h s
+  sound-plain = p (not-false t f) h (sym q ∙ g)
+
+  -- so its rows are rows of the slice
+  pub sound-rows : HasRows (h .rows .first) (h .width) (h .rows .count) s
+  sound-rows = has-rows-there sound-plain
+
+  -- and they are the rows of its layout
+  rows-read : layoutIn s .rows ≡ rowsAt (h .rows .first) (h .width) (h .rows .count) s
+  unfolding layoutIn
+  rows-read = rw (sym q ∙ g, layout-seen sound-plain)
+
+  -- so their order is its order
+  pub rows-order : {u : Bool} → t ≡ sound s → u ≡ increasing (rowsAt (h .rows .first) (h .width) (h .rows .count) s) → u ≡ ordered s
+  unfolding ordered
+  rows-order e d = d ∙ rw (← rows-read) (sym (first-holds e f))
+
+pub ruleset orders = (unsound-order, broken-order, sound-rows, rows-order)
+
+-- ---- a row of it: `row_of` and `row`
+
+module _ {h : Head} {s : List ℤ} (p : Plain h s) (i : ℕ) where
+  -- there is no row i
+  pub no-row : h .rows .count ≤ i → [] ≡ rowPart i (To h) s
+  no-row l = rw (le-ltb i (h .rows .count))
+
+  -- row i ends in the slice
+  pub row-ended : i < h .rows .count → h .rows .first + i * h .width + h .width ≤ length s
+  row-ended l = let e = rows-room p in row-room (h .rows .first) (h .width) l e
+
+  -- it is a part of the slice
+  pub is-row : i < h .rows .count → let from = h .rows .first + i * h .width in take (from + h .width - from) (drop from s) ≡ rowPart i (To h) s
+  unfolding part
+  is-row l =
+      let from = h .rows .first + i * h .width in
+      let size : from + h .width - from ≡ h .width = omega arith in
+      rw (lt-ltb i (h .rows .count), size)
+
+pub ruleset parts = (no-row, is-row)
+
+-- in a record that is not sound there is no row, whatever is asked for
+no-row-there : (s : List ℤ) (z : ℤ) → sound s ≡ false → [] ≡ row s z
+unfolding row
+no-row-there s (pos i) e = rw e
+no-row-there s (negsuc i) e = refl
+
+-- a negative number asks for none
+no-row-negative : (s : List ℤ) (z : ℤ) → signOf z ≡ Negative → [] ≡ row s z
+unfolding row signOf
+no-row-negative s (pos i) e = cc
+no-row-negative s (negsuc i) e = refl
+
+module _ (s : List ℤ) (z : ℤ) where
+  -- the record is not sound
+  pub unsound-row : {t : Bool} → t ≡ sound s → not t ≡ true → [] ≡ row s z
+  unsound-row {t} e f = no-row-there s z (sym e ∙ not-true t f)
+
+  -- it cannot be walked
+  pub broken-row : {r : Walk} → r ≡ walk s → r ≡ Broken → [] ≡ row s z
+  broken-row e f = no-row-there s z (sym (sound-broken s e f))
+
+  module _ {g : Sign} (small : mag z < 2 ^ 31) (e : g ≡ signOf (held z)) where
+    -- the sign of the number that was asked for
+    asked : signOf z ≡ g
+    asked = sym (e ∙ ap signOf (back z small))
+
+    -- it is negative
+    pub negative-row : g ≡ Negative → [] ≡ row s z
+    negative-row f = no-row-negative s z (asked ∙ f)
+
+    -- it is natural
+    pub found-row : {t : Bool} {r : Walk} {h : Head} {i : ℕ} {l : List ℤ} → g ≡ Natural i → t ≡ sound s → not t ≡ false → r ≡ walk s → r ≡ To h →
+        l ≡ rowPart i (To h) s → l ≡ row s z
+    unfolding row
+    found-row {t} f d k q w m = m ∙ rw (sign-natural z (asked ∙ f), ← d, not-false t k, sym q ∙ w)
+
+pub ruleset rows = (unsound-row, broken-row, negative-row, found-row, sound-plain)

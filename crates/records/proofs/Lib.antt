@@ -1,0 +1,22 @@
+-- Laws about records in a slice.
+--     Sections, Walks                        where a section lies, and a record
+--     InTurn, Passing                        tests put one after the other
+--     Numbers, Counts, Below, Products       tests of numbers
+--     RowTests, KindTests                    tests of rows, and of kinds
+--     Low, Layouts, Conjuncts, Soundness     a plain record, its layout, and its soundness
+--     Answers                                what is answered about any record
+pub mod Sections
+pub mod Walks
+pub mod InTurn
+pub mod Passing
+pub mod Low
+pub mod Numbers
+pub mod Counts
+pub mod Below
+pub mod Products
+pub mod RowTests
+pub mod KindTests
+pub mod Layouts
+pub mod Conjuncts
+pub mod Soundness
+pub mod Answers

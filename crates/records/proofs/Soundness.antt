@@ -1,0 +1,114 @@
+-- A plain record is sound where the tests that are put to its slice hold. Assumes nothing.
+use mathlib.Core.Path.{_≡_, sym, _∙_}
+use mathlib.Core.Bool.{Bool, true, false, not, _&&_, and-assoc, and-true}
+use mathlib.Core.List.{List}
+use Prim.Native.Nat.{_+_, _*_, _≤_}
+use native.Mathlib.Omega.{arith}
+use lib.IntN.{ℤ}
+use lib.ListN.{length}
+use Rattle.rules.specs.declared.Head.{Head}
+use Rattle.rules.specs.Buffers.{part}
+use Rattle.rules.specs.RowsInOrder.{increasing}
+use Rattle.rules.specs.Layout.{withinProduct, wellFormed, withinSizes}
+use Rattle.rules.specs.Record.{layoutBy}
+use Rattle.cells.specs.View.{view}
+use Rattle.tables.specs.Rows.{rowsAt}
+use Rattle.records.specs.Judging.{Plain, kindFits, axesFit, rowsFit, smallDeps}
+use Rattle.records.proofs.InTurn.{first-fails, first-holds}
+use Rattle.records.proofs.Layouts.{layout-seen, bounds}
+use Rattle.records.proofs.Conjuncts.{dense-within, rank-within, all-dense, diagonal-seen, no-rows, rows-seen, deps-seen, deps-small, few-seen}
+
+module _ {h : Head} {s : List ℤ} (p : Plain h s) where
+  -- the dependencies on states lie in the slice
+  states-in : h .states .first + h .states .count * (h .rank + 1) ≤ length s
+  states-in = omega (arith, bounds p)
+
+  -- so do those on inputs
+  inputs-in : h .inputs .first + h .inputs .count * (h .rank + 1) ≤ length s
+  inputs-in = omega (arith, bounds p)
+
+  -- the rules other than size, in the order in which they are tested
+  formed : wellFormed (layoutBy h s) ≡
+      kindFits (h .rows .count) s && (rowsFit (h .rows) (h .width) s && (axesFit (h .width) s
+      && (increasing (rowsAt (h .states .first) (h .rank + 1) (h .states .count) s) && increasing (rowsAt (h .inputs .first) (h .rank + 1) (h .inputs .count) s))))
+  unfolding wellFormed kindFits axesFit rowsFit
+  formed =
+      rw (
+        layout-seen p,
+        dense-within p,
+        rank-within p,
+        no-rows p,
+        rows-seen p,
+        all-dense p,
+        diagonal-seen p,
+        deps-seen p (h .states .first) (h .states .count) states-in,
+        deps-seen p (h .inputs .first) (h .inputs .count) inputs-in,
+      )
+      (simp (and-true, and-assoc))
+
+  -- the limits of size, in the order in which they are tested
+  sized : withinSizes (layoutBy h s) ≡
+      withinProduct (part 3 (h .rank) (view s)) && (smallDeps (h .states .first) (h .rank) (h .states .count) s && smallDeps (h .inputs .first) (h .rank) (h .inputs .count) s)
+  unfolding withinSizes
+  sized =
+      let b = bounds p in
+      rw (
+        layout-seen p,
+        few-seen p (h .rows .first) (h .width) (h .rows .count) (b .rows-few),
+        few-seen p (h .states .first) (h .rank + 1) (h .states .count) (b .states-few),
+        few-seen p (h .inputs .first) (h .rank + 1) (h .inputs .count) (b .inputs-few),
+        deps-small p (h .states .first) (h .states .count) states-in,
+        deps-small p (h .inputs .first) (h .inputs .count) inputs-in,
+      )
+      (simp (and-true, and-assoc))
+
+-- ---- one test after the other: `well_formed`
+
+module _ {h : Head} {s : List ℤ} (p : Plain h s) {t₁ : Bool} (e₁ : t₁ ≡ kindFits (h .rows .count) s) where
+  -- the kind does not fit
+  pub kind-wrong : not t₁ ≡ true → false ≡ wellFormed (layoutBy h s)
+  kind-wrong f = first-fails _ e₁ f ∙ sym (formed p)
+
+  module _ (f₁ : not t₁ ≡ false) {t₂ : Bool} (e₂ : t₂ ≡ rowsFit (h .rows) (h .width) s) where
+    -- a row does not fit
+    pub rows-wrong : not t₂ ≡ true → false ≡ wellFormed (layoutBy h s)
+    rows-wrong f = first-fails _ e₂ f ∙ sym (formed p ∙ first-holds e₁ f₁)
+
+    module _ (f₂ : not t₂ ≡ false) {t₃ : Bool} (e₃ : t₃ ≡ axesFit (h .width) s) where
+      -- what is left to test
+      rest₃ : wellFormed (layoutBy h s) ≡ axesFit (h .width) s
+          && (increasing (rowsAt (h .states .first) (h .rank + 1) (h .states .count) s) && increasing (rowsAt (h .inputs .first) (h .rank + 1) (h .inputs .count) s))
+      rest₃ = formed p ∙ first-holds e₁ f₁ ∙ first-holds e₂ f₂
+
+      -- the axes do not fit the kind
+      pub axes-wrong : not t₃ ≡ true → false ≡ wellFormed (layoutBy h s)
+      axes-wrong f = first-fails _ e₃ f ∙ sym rest₃
+
+      module _ (f₃ : not t₃ ≡ false) {t₄ : Bool} (e₄ : t₄ ≡ increasing (rowsAt (h .states .first) (h .rank + 1) (h .states .count) s)) where
+        -- the dependencies on states do not increase
+        pub states-wrong : not t₄ ≡ true → false ≡ wellFormed (layoutBy h s)
+        states-wrong f = first-fails _ e₄ f ∙ sym (rest₃ ∙ first-holds e₃ f₃)
+
+        -- those on inputs decide
+        pub well-formed : {t₅ : Bool} → not t₄ ≡ false → t₅ ≡ increasing (rowsAt (h .inputs .first) (h .rank + 1) (h .inputs .count) s) → t₅ ≡ wellFormed (layoutBy h s)
+        well-formed f₄ e₅ = e₅ ∙ sym (rest₃ ∙ first-holds e₃ f₃ ∙ first-holds e₄ f₄)
+
+pub ruleset forms = (kind-wrong, rows-wrong, axes-wrong, states-wrong, well-formed)
+
+-- ---- one test after the other: `within_sizes`
+
+module _ {h : Head} {s : List ℤ} (p : Plain h s) {t₁ : Bool} (e₁ : t₁ ≡ withinProduct (part 3 (h .rank) (view s))) where
+  -- the product of the extents is too large
+  pub shape-too-large : not t₁ ≡ true → false ≡ withinSizes (layoutBy h s)
+  shape-too-large f = first-fails _ e₁ f ∙ sym (sized p)
+
+  module _ (f₁ : not t₁ ≡ false) {t₂ : Bool} (e₂ : t₂ ≡ smallDeps (h .states .first) (h .rank) (h .states .count) s) where
+    -- a component of a dependency on states is too large
+    pub state-too-large : not t₂ ≡ true → false ≡ withinSizes (layoutBy h s)
+    state-too-large f = first-fails _ e₂ f ∙ sym (sized p ∙ first-holds e₁ f₁)
+
+    -- those of dependencies on inputs decide
+    pub sizes-right : {t₃ : Bool} → not t₂ ≡ false → t₃ ≡ smallDeps (h .inputs .first) (h .rank) (h .inputs .count) s → t₃ ≡ withinSizes (layoutBy h s)
+    sizes-right f₂ e₃ = e₃ ∙ sym (sized p ∙ first-holds e₁ f₁ ∙ first-holds e₂ f₂)
+
+pub ruleset sizes = (shape-too-large, state-too-large, sizes-right)

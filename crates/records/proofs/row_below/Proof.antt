@@ -1,0 +1,59 @@
+-- `row_below`: at each turn the first k components are below their extents.
+use Prim.Native.Nat.{_-_}
+use borrow.Author.Needs.{needs}
+use Rattle.records.proofs.Below.{Under, laws}
+use Rattle.records.proofs.row_below.Statement.{statement}
+use Rattle.records.proofs.row_below.Tie as tie
+
+abbrev Inv-loop : tie.InvT-loop
+Inv-loop s a w k₀ k = Under a w k s
+
+abbrev μ-loop : tie.MeasureT-loop
+μ-loop s a w k₀ k = w - k
+
+loop-holds : tie.Need-loop-holds Inv-loop μ-loop
+loop-holds c = search (needs, laws)
+
+add-get : tie.Need-add-get Inv-loop μ-loop
+add-get c = search (needs, laws)
+
+get-requires : tie.Need-get-requires Inv-loop μ-loop
+get-requires c κs = search (needs, laws)
+
+add-get-2 : tie.Need-add-get-2 Inv-loop μ-loop
+add-get-2 c = search (needs, laws)
+
+get-requires-2 : tie.Need-get-requires-2 Inv-loop μ-loop
+get-requires-2 c κs = search (needs, laws)
+
+returns : tie.Need-returns Inv-loop μ-loop
+returns c = search (needs, laws)
+
+add-k : tie.Need-add-k Inv-loop μ-loop
+add-k c = search (needs, laws)
+
+loop-less : tie.Need-loop-less Inv-loop μ-loop
+loop-less c = search (needs, laws)
+
+loop-again : tie.Need-loop-again Inv-loop μ-loop
+loop-again c = search (needs, laws)
+
+returns-2 : tie.Need-returns-2 Inv-loop μ-loop
+returns-2 c = search (needs, laws)
+
+pub row-below-spec : {M : Type 1} → statement M
+row-below-spec =
+    tie.close
+    (tie.spec
+    Inv-loop
+    μ-loop
+    loop-holds
+    add-get
+    get-requires
+    add-get-2
+    get-requires-2
+    returns
+    add-k
+    loop-less
+    loop-again
+    returns-2)

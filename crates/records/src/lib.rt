@@ -1,0 +1,368 @@
+// A record in a slice: its sections walked, its soundness and order judged, a row of it found. The only crate that knows where
+// a number of a record stands.
+ghost use mathlib.Core.Path.{_≡_};
+ghost use mathlib.Core.Bool.{true};
+ghost use Prim.Native.Nat.{_+_, _*_, _^_, _<_, _≤_};
+ghost use lib.ListN.{length, take};
+ghost use lib.Signed.{nonNeg};
+ghost use Rattle.rules.specs.Lists.{all, allBelow};
+ghost use Rattle.rules.specs.Buffers.{part};
+ghost use Rattle.rules.specs.Layout.{alike, withinProduct, wellFormed, withinSizes};
+ghost use Rattle.rules.specs.Record.{sectionAt, walk, layoutBy, soundFrom, sound, ordered, rowPart, row};
+ghost use Rattle.rules.specs.declared.Walk.the-variants.{To};
+ghost use Rattle.rules.specs.Arguments.{overRecord};
+ghost use Rattle.cells.specs.View.{view, Low};
+ghost use Rattle.records.specs.Sections.{SectionIn};
+ghost use Rattle.records.specs.Heads.{HeadOf};
+ghost use Rattle.records.specs.Judging.{Plain, PlainRecord, fewEntries, kindFits, axesFit, rowsFit, rowsBelow, small, smallDeps};
+use cells::Sign;
+use rules::Entries;
+use rules::Head;
+use rules::Section;
+use rules::Walk;
+
+// The section whose count stands at a place and whose entries have so many numbers each.
+pub fn section_at(s: &[i32], at: usize, width: usize) -> Section
+    requires { ⌜ width < 2 ^ 32 ⌝ }
+    ensures is { λ r. ⌜ r ≡ sectionAt at width (now (s .entry)) ⌝ }
+    ensures lies { λ r. ⌜ SectionIn at width (now (s .entry)) r ⌝ }
+{
+    if s.len() <= at {
+        return Section::Cut;
+    }
+    let Sign::Natural(count) = cells::sign_at(s, at) else {
+        return Section::Cut;
+    };
+    let first = at + 1;
+    let size = count * width;
+    if s.len() - first < size {
+        return Section::Cut;
+    }
+    Section::Whole(Entries {
+        count,
+        first,
+        next: first + size,
+    })
+}
+
+// The head of the record at the front of a slice, if the record can be walked to its end.
+pub fn walk_record(s: &[i32]) -> Walk
+    ensures { λ r. ⌜ r ≡ walk (now (s .entry)) ⌝ }
+{
+    let Section::Whole(extents) = section_at(s, 2, 1) else {
+        return Walk::Broken;
+    };
+    let rank = extents.count;
+    let kind = s[0];
+    let dense = s[1];
+    let Sign::Natural(width) = cells::less_by(rank, dense) else {
+        return Walk::Broken;
+    };
+    let Section::Whole(rows) = section_at(s, extents.next, width) else {
+        return Walk::Broken;
+    };
+    let Section::Whole(states) = section_at(s, rows.next, rank + 1) else {
+        return Walk::Broken;
+    };
+    let Section::Whole(inputs) = section_at(s, states.next, rank + 1) else {
+        return Walk::Broken;
+    };
+    Walk::To(Head {
+        kind,
+        dense,
+        rank,
+        width,
+        rows,
+        states,
+        inputs,
+    })
+}
+
+// Whether the count of a record's extents stands in the slice and is over 4.
+pub fn over_record(s: &[i32]) -> bool
+    ensures { λ r. ⌜ r ≡ overRecord (now (s .entry)) ⌝ }
+{
+    if s.len() <= 2 {
+        return false;
+    }
+    match cells::sign_at(s, 2) {
+        Sign::Natural(rank) => 4 < rank,
+        Sign::Negative => false,
+    }
+}
+
+// Whether none of the first n numbers is negative; if so, their views are low.
+pub fn all_natural(s: &[i32], n: usize) -> bool
+    requires { ⌜ n ≤ length (now s) ⌝ }
+    ensures is { λ r. ⌜ r ≡ all nonNeg (take n (now (s .entry))) ⌝ }
+    ensures low { λ r. ⌜ (r ≡ true → Low (take n (view (now (s .entry))))) ⌝ }
+{
+    for k in 0..n {
+        if let Sign::Negative = cells::sign_at(s, k) {
+            return false;
+        }
+    }
+    true
+}
+
+// Whether the product of those of the n extents from a on that are not zero is at most 65,536.
+pub fn within_product(s: &[i32], a: usize, n: usize) -> bool
+    requires { ⌜ a + n ≤ length (now s) ⌝ }
+    ensures { λ r. ⌜ r ≡ withinProduct (part a n (view (now (s .entry)))) ⌝ }
+{
+    let mut product: usize = 1;
+    for k in 0..n {
+        let extent = cells::get(s, a + k);
+        if extent == 0 {
+            continue;
+        }
+        product *= extent;
+        if 65536 < product {
+            return false;
+        }
+    }
+    true
+}
+
+// Whether the n numbers from a on are all the same.
+pub fn alike(s: &[i32], a: usize, n: usize) -> bool
+    requires { ⌜ a + n ≤ length (now s) ⌝ }
+    ensures { λ r. ⌜ r ≡ alike (part a n (view (now (s .entry)))) ⌝ }
+{
+    for k in 0..n {
+        if !cells::same(s, a, s, a + k) {
+            return false;
+        }
+    }
+    true
+}
+
+// Whether each of the n numbers from a on is at most 65,535.
+fn small_numbers(s: &[i32], a: usize, n: usize) -> bool
+    requires { ⌜ a + n ≤ length (now s) ⌝ }
+    ensures { λ r. ⌜ r ≡ all small (part a n (view (now (s .entry)))) ⌝ }
+{
+    for k in 0..n {
+        if 65535 < cells::get(s, a + k) {
+            return false;
+        }
+    }
+    true
+}
+
+// Whether each of the w components from a on is below the extent of its axis.
+fn row_below(s: &[i32], a: usize, w: usize) -> bool
+    requires { ⌜ (a + w ≤ length (now s)) × (3 + w ≤ length (now s)) ⌝ }
+    ensures { λ r. ⌜ r ≡ allBelow (part a w (view (now (s .entry)))) (part 3 w (view (now (s .entry)))) ⌝ }
+{
+    for k in 0..w {
+        let component = cells::get(s, a + k);
+        let extent = cells::get(s, 3 + k);
+        if extent <= component {
+            return false;
+        }
+    }
+    true
+}
+
+// Whether the components of the n rows from a on are below the extents.
+fn rows_below(s: &[i32], a: usize, n: usize, w: usize) -> bool
+    requires { ⌜ (a + n * w ≤ length (now s)) × (3 + w ≤ length (now s)) ⌝ }
+    ensures { λ r. ⌜ r ≡ rowsBelow a w n (now (s .entry)) ⌝ }
+{
+    for i in 0..n {
+        if !row_below(s, a + i * w, w) {
+            return false;
+        }
+    }
+    true
+}
+
+// Whether the components of the n dependencies from a on are at most 65,535; the number behind them may be any.
+fn small_deps(s: &[i32], a: usize, n: usize, rank: usize) -> bool
+    requires { ⌜ a + n * (rank + 1) ≤ length (now s) ⌝ }
+    ensures { λ r. ⌜ r ≡ smallDeps a rank n (now (s .entry)) ⌝ }
+{
+    for i in 0..n {
+        if !small_numbers(s, a + i * (rank + 1), rank) {
+            return false;
+        }
+    }
+    true
+}
+
+// Whether the rank is at most 4 and no section has more than 128 entries.
+fn few_entries(h: Head) -> bool
+    ensures { λ r. ⌜ r ≡ fewEntries h ⌝ }
+{
+    let rows = h.rows;
+    let states = h.states;
+    let inputs = h.inputs;
+    if 4 < h.rank {
+        return false;
+    }
+    if 128 < rows.count {
+        return false;
+    }
+    if 128 < states.count {
+        return false;
+    }
+    inputs.count <= 128
+}
+
+// Whether the kind is one of the three, and sparse where there are rows.
+fn kind_fits(s: &[i32], count: usize) -> bool
+    requires { ⌜ 0 < length (now s) ⌝ }
+    ensures { λ r. ⌜ r ≡ kindFits count (now (s .entry)) ⌝ }
+{
+    let kind = cells::get(s, 0);
+    if 2 < kind {
+        return false;
+    }
+    if kind == 2 {
+        return true;
+    }
+    count == 0
+}
+
+// Whether a dense layout has no axis for rows, and a diagonal one has some, all of the same extent.
+fn axes_fit(s: &[i32], width: usize) -> bool
+    requires { ⌜ 3 + width ≤ length (now s) ⌝ }
+    ensures { λ r. ⌜ r ≡ axesFit width (now (s .entry)) ⌝ }
+{
+    let kind = cells::get(s, 0);
+    if kind == 0 {
+        return width == 0;
+    }
+    if kind == 1 {
+        if width == 0 {
+            return false;
+        }
+        return alike(s, 3, width);
+    }
+    true
+}
+
+// Whether the rows differ from each other and their components are below the extents.
+fn rows_fit(s: &[i32], rows: Entries, width: usize) -> bool
+    requires { ⌜ (rows .first + rows .count * width ≤ length (now s)) × (3 + width ≤ length (now s)) ⌝ }
+    ensures { λ r. ⌜ r ≡ rowsFit rows width (now (s .entry)) ⌝ }
+{
+    if !tables::distinct(s, rows.first, rows.count, width) {
+        return false;
+    }
+    rows_below(s, rows.first, rows.count, width)
+}
+
+// Whether a plain record obeys the rules of soundness other than size.
+fn well_formed(s: &[i32], h: Head) -> bool
+    requires { ⌜ Plain h (now s) ⌝ }
+    ensures { λ r. ⌜ r ≡ wellFormed (layoutBy h (now (s .entry))) ⌝ }
+{
+    let rows = h.rows;
+    let states = h.states;
+    let inputs = h.inputs;
+    if !kind_fits(s, rows.count) {
+        return false;
+    }
+    if !rows_fit(s, rows, h.width) {
+        return false;
+    }
+    if !axes_fit(s, h.width) {
+        return false;
+    }
+    if !tables::is_increasing(s, states.first, states.count, h.rank + 1) {
+        return false;
+    }
+    tables::is_increasing(s, inputs.first, inputs.count, h.rank + 1)
+}
+
+// Whether a plain record keeps the limits of size.
+fn within_sizes(s: &[i32], h: Head) -> bool
+    requires { ⌜ Plain h (now s) ⌝ }
+    ensures { λ r. ⌜ r ≡ withinSizes (layoutBy h (now (s .entry))) ⌝ }
+{
+    let states = h.states;
+    let inputs = h.inputs;
+    if !within_product(s, 3, h.rank) {
+        return false;
+    }
+    if !small_deps(s, states.first, states.count, h.rank) {
+        return false;
+    }
+    small_deps(s, inputs.first, inputs.count, h.rank)
+}
+
+// Whether a walked record is sound; if so, it is plain. The counts are tested first, so that no later test takes long.
+fn sound_by(s: &[i32], h: Head) -> bool
+    requires { ⌜ HeadOf h (now s) ⌝ }
+    ensures is { λ r. ⌜ r ≡ soundFrom (To h) (now (s .entry)) ⌝ }
+    ensures plain { λ r. ⌜ (r ≡ true → Plain h (now (s .entry))) ⌝ }
+{
+    if !few_entries(h) {
+        return false;
+    }
+    let inputs = h.inputs;
+    if !all_natural(s, inputs.next) {
+        return false;
+    }
+    if !well_formed(s, h) {
+        return false;
+    }
+    within_sizes(s, h)
+}
+
+// Whether the record at the front of a slice is sound; if so, it is plain.
+pub fn sound(s: &[i32]) -> bool
+    ensures is { λ r. ⌜ r ≡ sound (now (s .entry)) ⌝ }
+    ensures plain { λ r. ⌜ (r ≡ true → PlainRecord (now (s .entry))) ⌝ }
+{
+    match walk_record(s) {
+        Walk::To(h) => sound_by(s, h),
+        Walk::Broken => false,
+    }
+}
+
+// Whether the record at the front of a slice is sound and its rows increase.
+pub fn ordered(s: &[i32]) -> bool
+    ensures { λ r. ⌜ r ≡ ordered (now (s .entry)) ⌝ }
+{
+    if !sound(s) {
+        return false;
+    }
+    let Walk::To(h) = walk_record(s) else {
+        return false;
+    };
+    let rows = h.rows;
+    tables::is_increasing(s, rows.first, rows.count, h.width)
+}
+
+// Row i of a plain record, as the part of the slice that it is; an empty part if there is none.
+fn row_of(s: &[i32], h: Head, i: usize) -> &[i32]
+    requires { ⌜ Plain h (now s) ⌝ }
+    ensures { λ r. ⌜ now r ≡ rowPart i (To h) (now (s .entry)) ⌝ }
+{
+    let rows = h.rows;
+    if rows.count <= i {
+        return &s[0..0];
+    }
+    let from = rows.first + i * h.width;
+    let to = from + h.width;
+    &s[from..to]
+}
+
+// Row n of the record at the front of a slice; an empty part if there is none or the record is not sound.
+pub fn row(s: &[i32], n: i32) -> &[i32]
+    ensures { λ r. ⌜ now r ≡ row (now (s .entry)) n ⌝ }
+{
+    if !sound(s) {
+        return &s[0..0];
+    }
+    let Walk::To(h) = walk_record(s) else {
+        return &s[0..0];
+    };
+    let Sign::Natural(i) = cells::sign_of(n) else {
+        return &s[0..0];
+    };
+    row_of(s, h, i)
+}

@@ -1,0 +1,9 @@
+pub mod Reading
+pub mod Passing
+pub mod Products
+pub mod Judging
+pub mod Walking
+pub mod Common
+pub mod Stretching
+pub mod Fitting
+pub mod Locating

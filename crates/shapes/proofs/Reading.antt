@@ -1,0 +1,180 @@
+-- What the sign of a number says of what is judged by the number. Assumes nothing.
+use mathlib.Core.Path.{_≡_, refl, sym, ap, _∙_}
+use mathlib.Core.Bool.{Bool, true, false, not}
+use mathlib.Core.List.{List, map}
+use Prim.Native.Nat.{ℕ, _<_, _≤_, _^_}
+use native.Mathlib.Omega.{arith}
+use borrow.Author.Tests.{lt-ltb, le-ltb, le-leb, lt-leb, leb-true, leb-false, eq-eqb, ne-eqb, eqb-true, not-true, not-false}
+use lib.Dec.{ltb, leb, eqb}
+use lib.IntN.{ℤ, pos, negsuc}
+use lib.ListN.{length, getD, List·getD-eq-default, List·getD-map, length-map}
+use lib.Signed.{mag, ltZ, nonNeg}
+use mir.Syntax.{w32}
+use mir.Val.{SFits, toZ, ofZ}
+use mir.ValLaws.{toZ-ofZ}
+use Rattle.rules.specs.Limits.{listLimit, componentLimit}
+use Rattle.rules.specs.Record.{natural, naturals, listCount}
+use Rattle.rules.specs.Arguments.{upTo, overCount, goodComponents, goodIndex}
+use Rattle.rules.proofs.Same.{true-not-false}
+use Rattle.cells.specs.declared.Sign.{Sign}
+use Rattle.cells.specs.declared.Sign.the-variants.{Natural, Negative}
+use Rattle.cells.specs.View.{signOf, sizeOf}
+use Rattle.shapes.specs.Judged.{comparableIndices}
+
+-- a number is above a limit where it is not up to it
+above-limit : (limit n : ℕ) (t : Bool) → leb n limit ≡ t → ltb limit n ≡ not (leb n limit)
+above-limit limit n true e = rw (e, le-ltb limit n (leb-true n limit e))
+above-limit limit n false e = rw (e, lt-ltb limit n (leb-false n limit e))
+
+-- a number that was read as natural is that number
+read-natural : (z : ℤ) {n : ℕ} → signOf z ≡ Natural n → z ≡ pos n
+unfolding signOf
+read-natural (pos m) e = cc
+read-natural (negsuc m) e = cc
+
+-- what is judged of a number that was read as negative
+module _ (z : ℤ) (e : signOf z ≡ Negative) where
+  none-natural : 0 ≡ natural z
+  unfolding signOf natural
+  none-natural = by z e
+    where
+      by : (y : ℤ) → signOf y ≡ Negative → 0 ≡ natural y
+      by (pos n) f = cc
+      by (negsuc n) f = refl
+
+  none-up-to : (limit : ℕ) → false ≡ upTo limit z
+  unfolding signOf upTo
+  none-up-to limit = by z e
+    where
+      by : (y : ℤ) → signOf y ≡ Negative → false ≡ upTo limit y
+      by (pos n) f = cc
+      by (negsuc n) f = refl
+
+  none-listed : 0 ≡ listCount z
+  unfolding signOf listCount
+  none-listed = by z e
+    where
+      by : (y : ℤ) → signOf y ≡ Negative → 0 ≡ listCount y
+      by (pos n) f = cc
+      by (negsuc n) f = refl
+
+-- a count that was read is a 32-bit number
+pub small-read : {g : Sign} {n b : ℕ} → sizeOf g < b → g ≡ Natural n → n < b
+small-read h e = rw e at h
+
+-- a number that was handed over is the one that was read
+pub handed-over : {g : Sign} (z : ℤ) → SFits w32 z → g ≡ signOf (toZ w32 (ofZ w32 z)) → g ≡ signOf z
+handed-over z h e = e ∙ ap signOf (toZ-ofZ w32 z h)
+
+-- nothing stands past the end
+pub nothing-there : (s : List ℤ) (i : ℕ) → length s ≤ i → 0 ≡ natural (getD s i (pos 0))
+unfolding natural
+nothing-there s i h = rw (List·getD-eq-default s (pos 0) h)
+
+module _ {g : Sign} (z : ℤ) (e : g ≡ signOf z) where
+  pub as-natural : {n : ℕ} → g ≡ Natural n → n ≡ natural z
+  unfolding natural
+  as-natural f = rw (read-natural z (sym e ∙ f))
+
+  pub as-nothing : g ≡ Negative → 0 ≡ natural z
+  as-nothing f = none-natural z (sym e ∙ f)
+
+  pub as-over : {n : ℕ} → g ≡ Natural n → ltb listLimit n ≡ overCount z
+  unfolding upTo
+  as-over {n} f = rw (read-natural z (sym e ∙ f)) (above-limit listLimit n (leb n listLimit) refl)
+
+  pub as-over-negative : g ≡ Negative → true ≡ overCount z
+  as-over-negative f = ap not (none-up-to z (sym e ∙ f) listLimit)
+
+  pub as-count : {n : ℕ} → g ≡ Natural n → n ≤ listLimit → n ≡ listCount z
+  unfolding listCount
+  as-count {n} f h = rw (read-natural z (sym e ∙ f), le-leb n listLimit h)
+
+  pub as-no-count : {n : ℕ} → g ≡ Natural n → listLimit < n → 0 ≡ listCount z
+  unfolding listCount
+  as-no-count {n} f h = rw (read-natural z (sym e ∙ f), lt-leb n listLimit h)
+
+  pub as-negative-count : g ≡ Negative → 0 ≡ listCount z
+  as-negative-count f = none-listed z (sym e ∙ f)
+
+  pub as-component : {n : ℕ} → g ≡ Natural n → leb n componentLimit ≡ upTo componentLimit z
+  unfolding upTo
+  as-component f = rw (read-natural z (sym e ∙ f))
+
+  pub as-no-component : g ≡ Negative → false ≡ upTo componentLimit z
+  as-no-component f = none-up-to z (sym e ∙ f) componentLimit
+
+-- a number is natural where it is not below 0
+not-below : (z : ℤ) → nonNeg z ≡ not (ltZ z (pos 0))
+not-below (pos n) = rw (le-ltb n 0 (omega arith))
+not-below (negsuc n) = refl
+
+-- what a test of a number that stands in a slice says
+pub test-natural : (z : ℤ) {b : Bool} → mag z < 2 ^ 31 → ltZ (toZ w32 (ofZ w32 z)) (pos 0) ≡ b → not b ≡ nonNeg z
+test-natural z h e = sym (not-below z ∙ ap not (sym (ap (λ (y : ℤ). ltZ y (pos 0)) (toZ-ofZ w32 z (record { sfits = h }))) ∙ e))
+
+pub ruleset reading = (small-read, handed-over, nothing-there, as-natural, as-nothing, as-over, as-over-negative, as-count, as-no-count, as-negative-count, as-component, as-no-component)
+
+-- the sign of a number that was handed over says whether it is natural
+pub sign-natural : {g : Sign} (z : ℤ) {n : ℕ} → g ≡ signOf z → g ≡ Natural n → nonNeg z ≡ true
+sign-natural z e f = rw (read-natural z (sym e ∙ f))
+
+pub sign-negative : {g : Sign} (z : ℤ) → g ≡ signOf z → g ≡ Negative → nonNeg z ≡ false
+unfolding signOf
+sign-negative (pos n) e f = cc
+sign-negative (negsuc n) e f = refl
+
+-- ---- judged indices
+
+module _ (s : List ℤ) (n : ℕ) where
+  pub index-length : (length s ≡ n → ⊥) → false ≡ goodIndex s n
+  index-length h = rw (ne-eqb (length s) n h)
+
+  pub index-components : {b : Bool} → length s ≡ n → b ≡ goodComponents s → b ≡ goodIndex s n
+  index-components h e = rw (eq-eqb (length s) n h) e
+
+module _ (a b : List ℤ) where
+  pub pair-lengths : (length a ≡ length b → ⊥) → false ≡ comparableIndices a b
+  pair-lengths h = rw (ne-eqb (length a) (length b) h)
+
+  module _ (l : length a ≡ length b) where
+    pub pair-long : 4 < length a → false ≡ comparableIndices a b
+    pair-long h = rw (eq-eqb (length a) (length b) l, lt-leb (length a) 4 h)
+
+    module _ {t : Bool} (h : length a ≤ 4) (e : t ≡ goodComponents a) where
+      pub pair-first : t ≡ false → false ≡ comparableIndices a b
+      pair-first f = rw (eq-eqb (length a) (length b) l, le-leb (length a) 4 h, ← e, f)
+
+      pub pair-second : {u : Bool} → t ≡ true → u ≡ goodComponents b → u ≡ comparableIndices a b
+      pair-second f g = rw (eq-eqb (length a) (length b) l, le-leb (length a) 4 h, ← e, f) g
+
+  -- they are of one length
+  pub comparable-lengths : comparableIndices a b ≡ true → length a ≡ length b
+  comparable-lengths e = by (eqb (length a) (length b)) refl
+    where
+      by : (t : Bool) → eqb (length a) (length b) ≡ t → length a ≡ length b
+      by true f = eqb-true (length a) (length b) f
+      by false f = absurd (true-not-false e (rw f))
+
+pub ruleset indices = (index-length, index-components, pair-lengths, pair-long, pair-first, pair-second, not-true, not-false)
+
+-- ---- a list of numbers read as natural ones
+
+pub length-naturals : (s : List ℤ) → length (naturals s) ≡ length s
+length-naturals s = length-map s natural
+
+pub natural-getD : (s : List ℤ) (i : ℕ) → getD (naturals s) i 0 ≡ natural (getD s i (pos 0))
+unfolding natural
+natural-getD s i = List·getD-map natural s i (pos 0)
+
+module _ (s : List ℤ) (k : ℕ) where
+  pub inside-naturals : k < length s → k < length (naturals s)
+  inside-naturals h = rw (length-naturals s) h
+
+  pub past-naturals : length s ≤ k → length (naturals s) ≤ k
+  past-naturals h = rw (length-naturals s) h
+
+  pub natural-there : {n : ℕ} → n ≡ natural (getD s k (pos 0)) → n ≡ getD (naturals s) k 0
+  natural-there e = e ∙ sym (natural-getD s k)
+
+pub ruleset in-naturals = (inside-naturals, past-naturals, natural-there)

@@ -1,0 +1,24 @@
+-- `extent`: the number behind those of the axes before.
+use borrow.Author.Needs.{needs}
+use Rattle.shapes.proofs.Judging.{extent-laws}
+use Rattle.shapes.proofs.extents.extent.Tie as tie
+use Rattle.shapes.proofs.extents.extent.Statement.{statement}
+
+rank-requires : tie.Need-rank-requires
+rank-requires c κs = search needs
+
+add-natural-at : tie.Need-add-natural-at
+add-natural-at c = search needs
+
+natural-at-requires : tie.Need-natural-at-requires
+natural-at-requires c κs = search needs
+
+returns : tie.Need-returns
+returns c = search (needs, extent-laws)
+
+returns-2 : tie.Need-returns-2
+returns-2 c = search (needs, extent-laws)
+
+pub extent-spec : {M : Type 1} → statement M
+extent-spec =
+    tie.close (tie.spec rank-requires add-natural-at natural-at-requires returns returns-2)

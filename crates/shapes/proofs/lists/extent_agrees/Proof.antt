@@ -1,0 +1,14 @@
+-- `extent_agrees`: both tests.
+use borrow.Author.Needs.{needs}
+use Rattle.shapes.proofs.Walking.{agree-laws}
+use Rattle.shapes.proofs.lists.extent_agrees.Tie as tie
+use Rattle.shapes.proofs.lists.extent_agrees.Statement.{statement}
+
+returns : tie.Need-returns
+returns c = search (needs, agree-laws)
+
+returns-2 : tie.Need-returns-2
+returns-2 c = search (needs, agree-laws)
+
+pub extent-agrees-spec : {M : Type 1} → statement M
+extent-agrees-spec = tie.close (tie.spec returns returns-2)

@@ -1,0 +1,14 @@
+-- `larger`: by the order of the two.
+use borrow.Author.Needs.{needs}
+use Rattle.shapes.proofs.Walking.{larger-laws}
+use Rattle.shapes.proofs.lists.larger.Tie as tie
+use Rattle.shapes.proofs.lists.larger.Statement.{statement}
+
+returns : tie.Need-returns
+returns c = search (needs, larger-laws)
+
+returns-2 : tie.Need-returns-2
+returns-2 c = search (needs, larger-laws)
+
+pub larger-spec : {M : Type 1} → statement M
+larger-spec = tie.close (tie.spec returns returns-2)

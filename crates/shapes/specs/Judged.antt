@@ -1,0 +1,46 @@
+-- What is known of shapes once they were judged, and the words that the contracts are written in.
+use mathlib.Core.Path.{_≡_}
+use mathlib.Core.Bool.{Bool, true, false, _&&_, _||_}
+use mathlib.Core.List.{List, map}
+use Prim.Native.Nat.{ℕ, _≤_}
+use lib.Dec.{eqb, leb}
+use lib.IntN.{ℤ}
+use lib.ListN.{length, drop}
+use Rattle.rules.specs.Limits.{rankLimit}
+use Rattle.rules.specs.Lists.{if, all, any}
+use Rattle.rules.specs.Record.{endToEnd, behindShape, shapeIn, goodShape}
+use Rattle.rules.specs.Arguments.{overShape, goodComponents}
+
+-- a shape that was not refused
+pub record Judged (s : List ℤ) : Type 0 where
+  pub small : overShape s ≡ false
+  pub good : goodShape s ≡ true
+
+-- the slices at which n shapes begin, and the shapes
+abbrev pub shapesFrom : ℕ → List ℤ → List (List ℤ)
+shapesFrom n s = endToEnd behindShape n s
+
+abbrev pub shapesOf : ℕ → List ℤ → List (List ℕ)
+shapesOf n s = map shapeIn (shapesFrom n s)
+
+-- n shapes of which none was refused
+pub record AllJudged (n : ℕ) (s : List ℤ) : Type 0 where
+  pub small : any overShape (shapesFrom n s) ≡ false
+  pub good : all goodShape (shapesFrom n s) ≡ true
+
+-- behind the shape that begins at a place stands what stands from r on
+pub record Behind (at : ℕ) (s : List ℤ) (r : ℕ) : Type 0 where
+  pub inside : r ≤ length s
+  pub rest : drop r s ≡ behindShape (drop at s)
+
+-- an extent in a product that passes over zeros
+unfoldable pub factorOf : ℕ → ℕ
+factorOf e = if (eqb e 0) 1 e
+
+-- an axis stretches from extent 1 to any but 0, and from each extent to itself
+abbrev pub axisStretches : ℕ → ℕ → Bool
+axisStretches to source = leb source to && (eqb source 1 || eqb source to)
+
+-- indices of one length up to 4
+abbrev pub comparableIndices : List ℤ → List ℤ → Bool
+comparableIndices a b = eqb (length a) (length b) && leb (length a) rankLimit && goodComponents a && goodComponents b

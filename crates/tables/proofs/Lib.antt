@@ -1,0 +1,17 @@
+pub mod Rows
+pub mod Comparing
+pub mod Spots
+pub mod Agreeing
+pub mod Halving
+pub mod Rising
+pub mod Different
+pub mod Only
+pub mod Tables
+pub mod Placing
+pub mod Inserting
+pub mod Putting
+pub mod InOrder
+pub mod Walking
+pub mod MergeWalk
+pub mod CommonWalk
+pub mod Made

@@ -1,0 +1,13 @@
+-- `is_gap`: a space at the first test, else what the second test says.
+use borrow.Author.Tests.{eq-eqb, ne-eqb}
+use Rattle.text.proofs.is_gap.Statement.{statement}
+use Rattle.text.proofs.is_gap.Tie as tie
+
+returns : tie.Need-returns
+returns c = rw (eq-eqb (c .before .args .byte) 32 (c .if1 .taken))
+
+returns-2 : tie.Need-returns-2
+returns-2 c = rw (ne-eqb (c .before .args .byte) 32 (c .if1 .left))
+
+pub is-gap-spec : {M : Type 1} → statement M
+is-gap-spec = tie.close (tie.spec returns returns-2)
