@@ -12,6 +12,7 @@ ghost use Rattle.rules.specs.Record.{sectionAt, walk, layoutBy, soundFrom, soun
 ghost use Rattle.rules.specs.declared.Walk.the-variants.{To};
 ghost use Rattle.rules.specs.Arguments.{overRecord};
 ghost use Rattle.cells.specs.View.{view, Low};
+ghost use Rattle.tables.specs.Rows.{HasRows};
 ghost use Rattle.records.specs.Sections.{SectionIn};
 ghost use Rattle.records.specs.Heads.{HeadOf};
 ghost use Rattle.records.specs.Judging.{Plain, PlainRecord, fewEntries, kindFits, axesFit, rowsFit, rowsBelow, small, smallDeps};
@@ -245,10 +246,11 @@ fn axes_fit(s: &[i32], width: usize) -> bool
 
 // Whether the rows differ from each other and their components are below the extents.
 fn rows_fit(s: &[i32], rows: Entries, width: usize) -> bool
-    requires { ⌜ (rows .first + rows .count * width ≤ length (now s)) × (3 + width ≤ length (now s)) ⌝ }
+    requires { ⌜ HasRows (rows .first) width (rows .count) (now s) ⌝ }
+    requires { ⌜ 3 + width ≤ length (now s) ⌝ }
     ensures { λ r. ⌜ r ≡ rowsFit rows width (now (s .entry)) ⌝ }
 {
-    if !tables::distinct(s, rows.first, rows.count, width) {
+    if !tables::all_differ(s, rows.first, rows.count, width) {
         return false;
     }
     rows_below(s, rows.first, rows.count, width)

@@ -1,4 +1,4 @@
--- `distinct`: rows that are all different are as many when they are sorted, and others are fewer. Assumes nothing.
+-- `distinct` and `all_differ`: rows that are all different are as many when they are sorted, and others are fewer. Assumes nothing.
 use mathlib.Core.Path.{_≡_, refl, sym, ap, _∙_}
 use mathlib.Core.Bool.{Bool, true, false, not}
 use mathlib.Core.List.{List, [], _∷_}
@@ -10,11 +10,12 @@ use lib.Dec.{eqb}
 use lib.IntN.{ℤ}
 use lib.ListN.{length, getD}
 use Rattle.rules.specs.Lists.{same}
-use Rattle.rules.specs.RowsInOrder.{sorted}
+use Rattle.rules.specs.RowsInOrder.{increasing, sorted}
 use Rattle.rules.proofs.Same.{same-true, same-refl, true-not-false}
-use Rattle.rules.proofs.Sets.{In, in-same}
+use Rattle.rules.proofs.Sets.{In, in-same, increasing-true}
 use Rattle.rules.proofs.Sorting.{insert-length-most, insert-length-new, insert-in, sorted-increasing, sorted-has, sorted-only, sorted-length}
 use Rattle.rules.proofs.Places.{in-at, nowhere}
+use Rattle.rules.proofs.Soundness.{increasing-distinct}
 use Rattle.tables.specs.Rows.{rowAt, rowsAt}
 use Rattle.tables.proofs.Rows.{length-rows, row-of, row-ends}
 
@@ -121,3 +122,7 @@ module _ {a w n i j : ℕ} {s : List ℤ} {twice : Bool} (g : Alone a w n i j s 
         rw v (sym (ne-eqb (length (sorted (rowsAt a w n s))) (length (rowsAt a w n s)) (λ q. omega arith)))
 
 pub ruleset laws = (start, next, row-ended, row-apart, earlier-ends, turn)
+
+-- rows that test as increasing are as many after sorting
+pub increasing-differ : (t : List (List ℕ)) {b : Bool} → b ≡ increasing t → b ≡ true → true ≡ eqb (length (sorted t)) (length t)
+increasing-differ t e h = sym (eq-eqb (length (sorted t)) (length t) (increasing-distinct (increasing-true t (sym e ∙ h))))

@@ -4,8 +4,8 @@ use Rattle.records.proofs.RowTests.{fits}
 use Rattle.records.proofs.rows_fit.Statement.{statement}
 use Rattle.records.proofs.rows_fit.Tie as tie
 
-distinct-requires : tie.Need-distinct-requires
-distinct-requires c κs = search needs
+all-differ-requires : tie.Need-all-differ-requires
+all-differ-requires c κs = search needs
 
 returns : tie.Need-returns
 returns c = search (needs, fits)
@@ -17,4 +17,4 @@ returns-2 : tie.Need-returns-2
 returns-2 c = search (needs, fits)
 
 pub rows-fit-spec : {M : Type 1} → statement M
-rows-fit-spec = tie.close (tie.spec distinct-requires returns rows-below-requires returns-2)
+rows-fit-spec = tie.close (tie.spec all-differ-requires returns rows-below-requires returns-2)
