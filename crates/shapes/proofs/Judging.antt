@@ -8,7 +8,7 @@ use native.Mathlib.Omega.{arith}
 use borrow.Author.Tests.{ltb-false, leb-true, not-true, not-false}
 use lib.Dec.{leb}
 use lib.IntN.{ℤ, pos, negsuc}
-use lib.ListN.{length, getD, take, drop, length-take, length-drop, drop-of-length-le, List·getD-eq-default, List·getD-map}
+use lib.ListN.{length, getD, take, drop, length-take, length-drop, List·getD-eq-default, List·getD-map}
 use lib.Seq.{getD-take, getD-drop, drop-drop, drop-length, take-all}
 use lib.Signed.{nonNeg}
 use mir.Syntax.{w64}
@@ -19,8 +19,7 @@ use Rattle.rules.specs.declared.Section.the-variants.{Whole, Cut}
 use Rattle.rules.specs.Lists.{if, all}
 use Rattle.rules.specs.Buffers.{part}
 use Rattle.rules.specs.Layout.{withinProduct}
-use Rattle.rules.specs.Record.{natural, naturals, entriesFrom, sectionAt, goodExtents, goodShape, shapeIn, restAfter, behindShape}
-use Rattle.rules.specs.Arguments.{overShape}
+use Rattle.rules.specs.Record.{natural, naturals, entriesFrom, sectionAt, goodExtents, goodShape, shapeIn, behindShape}
 use Rattle.rules.proofs.Same.{both-true, true-not-false}
 use Rattle.records.specs.Sections.{Laid, SectionIn}
 use Rattle.shapes.specs.Judged.{Judged, Behind}
@@ -82,10 +81,10 @@ module _ (s : List ℤ) (j : Judged s) where
       let below : a < counted s = omega (arith, rank-counted) in
       let inside : a < length part = simp (length-take, length-drop) (omega arith) in
       let there : getD part a (pos 1) ≡ getD s (a + 1) (pos 0) =
-        any-default part a (pos 1) (pos 0) inside
-        ∙ getD-take (counted s) (drop 1 s) a (pos 0) below
-        ∙ getD-drop 1 s a (pos 0)
-        ∙ ap (λ (i : ℕ). getD s i (pos 0)) (add-comm 1 a) in
+      any-default part a (pos 1) (pos 0) inside
+      ∙ getD-take (counted s) (drop 1 s) a (pos 0) below
+      ∙ getD-drop 1 s a (pos 0)
+      ∙ ap (λ (i : ℕ). getD s i (pos 0)) (add-comm 1 a) in
       f ∙ sym (List·getD-map natural part a (pos 1) ∙ ap natural there)
 
   pub extent-there-low : {a n r : ℕ} → r ≡ length (shapeIn s) → a < r → n ≡ natural (getD s (a + 1) (pos 0)) → n ≤ 65536

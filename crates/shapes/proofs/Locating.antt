@@ -1,16 +1,16 @@
 -- Indices and their numbers in row-major order. Assumes nothing.
 use mathlib.Core.Path.{_≡_, refl, sym, ap, _∙_}
-use mathlib.Core.Bool.{Bool, true, false, _&&_, _||_}
+use mathlib.Core.Bool.{true, false}
 use mathlib.Core.List.{List, [], _∷_, _++_, append-nil}
 use Prim.Native.Nat.{ℕ, zero, suc, _+_, _-_, _*_, _/_, _%_, _^_, _<_, _≤_}
-use native.Mathlib.Nat.{zero-mul, zero-add, add-zero, add-mul, add-assoc, mul-one, mul-assoc, mul-comm, pow-suc, suc-mul, div-one, div-div-eq-div-mul, mul-le-mul-left, mul-le-mul-right, pow-le-pow-right, lt-of-lt-of-le, lt-of-le-of-lt}
-use native.Mathlib.Numerals.{add-one, sub-one}
+use native.Mathlib.Nat.{zero-mul, zero-add, add-zero, add-mul, add-assoc, mul-one, mul-assoc, mul-comm, pow-suc, suc-mul, div-one, div-div-eq-div-mul, mul-le-mul-left, mul-le-mul-right, pow-le-pow-right, lt-of-lt-of-le}
+use native.Mathlib.Numerals.{add-one}
 use native.Mathlib.Omega.{arith}
-use borrow.Author.Tests.{lt-ltb, le-ltb, ltb-false, leb-true, eqb-true, ne-eqb}
+use borrow.Author.Tests.{lt-ltb, le-ltb, leb-true, eqb-true, ne-eqb}
 use lib.Dec.{eqb, leb, ltb, lit<}
 use lib.IntN.{ℤ, pos, negsuc}
-use lib.ListN.{length, getD, take, drop, set, replicate, length-replicate, drop-of-length-le, List·getD-eq-default}
-use lib.Seq.{drop-cons, drop-length}
+use lib.ListN.{length, getD, drop, set, replicate, length-replicate, drop-of-length-le}
+use lib.Seq.{drop-cons}
 use mir.Syntax.{w64}
 use mir.Val.{Fits}
 use Rattle.rules.specs.declared.Ordering.{Ordering}
@@ -24,7 +24,7 @@ use Rattle.rules.specs.Positions.{ravelIndex, unravel}
 use Rattle.rules.proofs.Order.{cmp-at, cmp-end}
 use Rattle.rules.proofs.Same.{both-true, true-not-false}
 use Rattle.shapes.specs.Judged.{Judged}
-use Rattle.shapes.proofs.Reading.{length-naturals, natural-getD, inside-naturals, past-naturals}
+use Rattle.shapes.proofs.Reading.{natural-getD, inside-naturals, past-naturals}
 use Rattle.shapes.proofs.Judging.{rank-counted, rank-small}
 use Rattle.shapes.proofs.Fitting.{fit-set, fit-zeros}
 
@@ -131,7 +131,7 @@ module _ (index shape : List ℤ) {k number e : ℕ} (p : Raveled index shape k 
         let there : c ≡ getD (naturals index) k 0 = ec ∙ sym (natural-getD index k) in
         let inside : k < length (shapeIn shape) = omega (arith, p .long) in
         let sum : number * (e * rest) + (c * rest + other) ≡ (number * e + c) * rest + other =
-          rw (add-mul (number * e) c rest, mul-assoc number e rest, add-assoc (number * (e * rest)) (c * rest) other) in
+        rw (add-mul (number * e) c rest, mul-assoc number e rest, add-assoc (number * (e * rest)) (c * rest) other) in
         record {
           upto = omega arith;
           long = p .long;
@@ -197,7 +197,7 @@ unravel-axis n shape index rest j e p f =
       few = p .few;
       left = rw (one, p .left, mul-comm e after) (div-div-eq-div-mul n after e);
       is = rw (one, p .is, zeros-more j (unravel n (drop (suc j) shape)), p .left)
-        (fit-set 4 0 j 0 (n / after % e) (replicate j 0) (unravel n (drop (suc j) shape)) (length-replicate j 0) (omega (arith, p .few)));
+          (fit-set 4 0 j 0 (n / after % e) (replicate j 0) (unravel n (drop (suc j) shape)) (length-replicate j 0) (omega (arith, p .few)));
     }
 
 pub unravel-turn : (n : ℕ) (shape index : List ℕ) (rest k e : ℕ) → Unraveled n shape index rest k → 0 < k → e ≡ getD shape (k - 1) 1 →
@@ -211,3 +211,9 @@ pub unravel-done : {n : ℕ} {shape index : List ℕ} {rest k : ℕ} → Unravel
 unravel-done {k = k} p h = let z : k ≡ 0 = omega arith in rw z at (p .is)
 
 pub ruleset unravel-laws = (unravel-start, unravel-turn, unravel-done, extent-divides)
+
+-- an index has as many components as its shape has axes
+pub length-unravel : (n : ℕ) (shape : List ℕ) → length (unravel n shape) ≡ length shape
+unfolding unravel
+length-unravel n [] = refl
+length-unravel n (e ∷ shape) = ap suc (length-unravel n shape)

@@ -1,7 +1,7 @@
 -- Loops that leave at the first element that fails, or at the first that passes. Assumes nothing.
 use mathlib.Core.Path.{_≡_, refl, sym, ap, _∙_}
 use mathlib.Core.Bool.{Bool, true, false, _&&_, _||_}
-use mathlib.Core.List.{List, [], _∷_}
+use mathlib.Core.List.{List}
 use Prim.Native.Nat.{ℕ, zero, suc, _+_, _<_, _≤_, _^_}
 use native.Mathlib.Numerals.{add-one}
 use native.Mathlib.Omega.{arith}
@@ -112,4 +112,5 @@ module _ {l : List ℕ} {k n : ℕ} (p : AnyFrom (eqb 0) l k) (is : n ≡ length
 pub ruleset zero-laws = (any-start, zero-turn, zero-stop, zero-done)
 
 pub ruleset all-laws = (all-start, all-turn, all-stop, all-done, not-true, not-false)
+
 pub ruleset natural-laws = (all-start, natural-turn, natural-stop, all-done)

@@ -1,9 +1,9 @@
 -- The product of the extents that are not zero, and loops over its factors that leave as soon as it passes the limit. Assumes nothing.
-use mathlib.Core.Path.{_≡_, refl, sym, ap, _∙_}
+use mathlib.Core.Path.{_≡_, refl, sym, _∙_}
 use mathlib.Core.Bool.{Bool, true, false, not}
 use mathlib.Core.List.{List, [], _∷_}
 use Prim.Native.Nat.{ℕ, zero, suc, _+_, _*_, _<_, _≤_, _^_}
-use native.Mathlib.Nat.{one-mul, mul-one, mul-assoc, mul-pos, le-trans, le-mul-of-pos-right, mul-comm, mul-le-mul, mul-le-mul-right, lt-of-lt-of-le, lt-of-le-of-lt, pos-of-ne-zero}
+use native.Mathlib.Nat.{one-mul, mul-one, mul-assoc, mul-pos, le-trans, le-mul-of-pos-right, mul-comm, mul-le-mul, lt-of-lt-of-le, lt-of-le-of-lt, pos-of-ne-zero}
 use native.Mathlib.Numerals.{add-one, add-one-le}
 use native.Mathlib.Omega.{arith}
 use borrow.Author.Tests.{eq-eqb, ne-eqb, eqb-true, eqb-false, le-leb, lt-leb, leb-true}

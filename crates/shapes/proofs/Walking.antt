@@ -1,20 +1,19 @@
 -- Shapes end to end, walked from one to the next. Assumes nothing.
 use mathlib.Core.Path.{_≡_, refl, sym, ap, _∙_}
-use mathlib.Core.Bool.{Bool, true, false, _&&_, _||_}
-use mathlib.Core.List.{List, [], _∷_, map}
-use Prim.Native.Nat.{ℕ, zero, suc, _+_, _-_, _<_, _≤_}
-use native.Mathlib.Nat.{suc-pred-eq-of-pos}
+use mathlib.Core.Bool.{Bool, true, false, _||_}
+use mathlib.Core.List.{List, [], _∷_}
+use Prim.Native.Nat.{ℕ, zero, suc, _-_, _<_, _≤_}
 use native.Mathlib.Numerals.{sub-one}
 use native.Mathlib.Omega.{arith}
 use borrow.Author.Tests.{lt-ltb, le-ltb, eq-eqb, ne-eqb, not-true, not-false}
-use lib.Dec.{ltb, eqb}
+use lib.Dec.{eqb}
 use lib.IntN.{ℤ}
-use lib.ListN.{length, getD, take, drop}
-use Rattle.rules.specs.Lists.{all, any, larger, largest}
-use Rattle.rules.specs.Record.{endToEnd, behindShape, shapeIn, goodShape}
+use lib.ListN.{length, take, drop}
+use Rattle.rules.specs.Lists.{all, any, larger}
+use Rattle.rules.specs.Record.{endToEnd, behindShape, goodShape}
 use Rattle.rules.specs.Arguments.{overShape}
 use Rattle.rules.proofs.Same.{both-true}
-use Rattle.shapes.specs.Judged.{Judged, AllJudged, Behind, shapesFrom, shapesOf}
+use Rattle.shapes.specs.Judged.{Judged, AllJudged, Behind, shapesFrom}
 use Rattle.shapes.proofs.Judging.{to-end}
 
 -- ---- two numbers
@@ -101,6 +100,7 @@ unfolding all
 all-left-done {left = left} {at = at} p h = sym (p .eq ∙ rw (none-left left (drop at _) h))
 
 pub ruleset any-left = (any-left-start, any-left-turn, any-left-stop, any-left-done)
+
 pub ruleset all-left = (all-left-start, all-left-turn, all-left-stop, all-left-done, not-true, not-false)
 
 -- ---- shapes that were judged

@@ -11,7 +11,11 @@ ghost use Rattle.rules.specs.Record.{goodShape};
 ghost use Rattle.rules.specs.Arguments.{overShape};
 ghost use Rattle.rules.specs.Shapes.{commonExtent, axisAgrees, shapesAgree, commonShape};
 ghost use Rattle.shapes.specs.Judged.{AllJudged, shapesFrom, shapesOf};
-use super::extents::{over_shape, good_shape, behind_shape, rank, extent};
+use super::extents::behind_shape;
+use super::extents::extent;
+use super::extents::good_shape;
+use super::extents::over_shape;
+use super::extents::rank;
 
 // Whether one of n shapes has more than 4 extents.
 pub fn over_shapes(s: &[i32], n: usize) -> bool

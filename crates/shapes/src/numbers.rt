@@ -37,13 +37,7 @@ pub fn list_count(count: i32) -> usize
     ensures { λ r. ⌜ r ≡ listCount count ⌝ }
 {
     match cells::sign_of(count) {
-        Sign::Natural(n) => {
-            if n <= 16 {
-                n
-            } else {
-                0
-            }
-        }
+        Sign::Natural(n) => { if n <= 16 { n } else { 0 } }
         Sign::Negative => 0,
     }
 }

@@ -10,8 +10,9 @@ ghost use Rattle.rules.specs.Record.{naturals, shapeIn};
 ghost use Rattle.rules.specs.Arguments.{goodIndex};
 ghost use Rattle.rules.specs.Positions.{ravelIndex, unravel};
 ghost use Rattle.shapes.specs.Judged.{Judged};
+use super::extents::extent;
+use super::extents::rank;
 use super::numbers::natural_at;
-use super::extents::{rank, extent};
 use rules::Ordering;
 
 // The number of an index, which may lie outside its shape.

@@ -4,8 +4,8 @@ use lib.ListN.{length}
 use lib.Signed.{nonNeg}
 use borrow.Author.Needs.{needs}
 use Rattle.shapes.proofs.Passing.{AllFrom, natural-laws}
-use Rattle.shapes.proofs.extents.all_natural.Tie as tie
 use Rattle.shapes.proofs.extents.all_natural.Statement.{statement}
+use Rattle.shapes.proofs.extents.all_natural.Tie as tie
 
 abbrev Inv-loop : tie.InvT-loop
 Inv-loop s k₀ k = AllFrom nonNeg s k

@@ -4,8 +4,8 @@ use lib.Dec.{eqb}
 use borrow.Author.Needs.{needs}
 use Rattle.rules.specs.Record.{shapeIn}
 use Rattle.shapes.proofs.Passing.{AnyFrom, zero-laws}
-use Rattle.shapes.proofs.extents.any_zero.Tie as tie
 use Rattle.shapes.proofs.extents.any_zero.Statement.{statement}
+use Rattle.shapes.proofs.extents.any_zero.Tie as tie
 
 abbrev Inv-loop : tie.InvT-loop
 Inv-loop s axes axis₀ axis = AnyFrom (eqb 0) (shapeIn s) axis

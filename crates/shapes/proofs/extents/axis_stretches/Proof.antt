@@ -1,8 +1,8 @@
 -- `axis_stretches`: by the order of the two.
 use borrow.Author.Needs.{needs}
 use Rattle.shapes.proofs.Stretching.{axis-laws}
-use Rattle.shapes.proofs.extents.axis_stretches.Tie as tie
 use Rattle.shapes.proofs.extents.axis_stretches.Statement.{statement}
+use Rattle.shapes.proofs.extents.axis_stretches.Tie as tie
 
 returns : tie.Need-returns
 returns c = search (needs, axis-laws)

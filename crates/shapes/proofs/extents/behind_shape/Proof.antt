@@ -1,8 +1,8 @@
 -- `behind_shape`: by the section of the extents.
 use borrow.Author.Needs.{needs}
 use Rattle.shapes.proofs.Judging.{behind-laws}
-use Rattle.shapes.proofs.extents.behind_shape.Tie as tie
 use Rattle.shapes.proofs.extents.behind_shape.Statement.{statement}
+use Rattle.shapes.proofs.extents.behind_shape.Tie as tie
 
 mul-section-at : tie.Need-mul-section-at
 mul-section-at c = search needs

@@ -1,8 +1,8 @@
 -- `extent`: the number behind those of the axes before.
 use borrow.Author.Needs.{needs}
 use Rattle.shapes.proofs.Judging.{extent-laws}
-use Rattle.shapes.proofs.extents.extent.Tie as tie
 use Rattle.shapes.proofs.extents.extent.Statement.{statement}
+use Rattle.shapes.proofs.extents.extent.Tie as tie
 
 rank-requires : tie.Need-rank-requires
 rank-requires c κs = search needs

@@ -1,8 +1,8 @@
 -- `factor`: zeros count 1.
 use borrow.Author.Needs.{needs}
 use Rattle.shapes.proofs.Products.{factors}
-use Rattle.shapes.proofs.extents.factor.Tie as tie
 use Rattle.shapes.proofs.extents.factor.Statement.{statement}
+use Rattle.shapes.proofs.extents.factor.Tie as tie
 
 returns : tie.Need-returns
 returns c = search (needs, factors)

@@ -1,8 +1,8 @@
 -- `good_extents`: both tests.
 use borrow.Author.Needs.{needs}
 use Rattle.shapes.proofs.Judging.{both-tests}
-use Rattle.shapes.proofs.extents.good_extents.Tie as tie
 use Rattle.shapes.proofs.extents.good_extents.Statement.{statement}
+use Rattle.shapes.proofs.extents.good_extents.Tie as tie
 
 all-natural-requires : tie.Need-all-natural-requires
 all-natural-requires c κs = search needs

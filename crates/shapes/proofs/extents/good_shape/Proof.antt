@@ -1,8 +1,8 @@
 -- `good_shape`: by the section of its extents.
 use borrow.Author.Needs.{needs}
 use Rattle.shapes.proofs.Judging.{good-laws}
-use Rattle.shapes.proofs.extents.good_shape.Tie as tie
 use Rattle.shapes.proofs.extents.good_shape.Statement.{statement}
+use Rattle.shapes.proofs.extents.good_shape.Tie as tie
 
 section-at-requires : tie.Need-section-at-requires
 section-at-requires c κs = search needs

@@ -1,7 +1,7 @@
 -- `over_shape`: by the number at the front.
 use borrow.Author.Needs.{needs}
-use Rattle.shapes.proofs.extents.over_shape.Tie as tie
 use Rattle.shapes.proofs.extents.over_shape.Statement.{statement}
+use Rattle.shapes.proofs.extents.over_shape.Tie as tie
 
 natural-at-requires : tie.Need-natural-at-requires
 natural-at-requires c κs = search needs

@@ -4,8 +4,8 @@ use borrow.Author.Needs.{needs}
 use borrow.Author.Tests.{not-false}
 use Rattle.rules.specs.Record.{shapeIn}
 use Rattle.shapes.proofs.Stretching.{Stretched, laws, stretch-turn}
-use Rattle.shapes.proofs.extents.stretches.Tie as tie
 use Rattle.shapes.proofs.extents.stretches.Statement.{statement}
+use Rattle.shapes.proofs.extents.stretches.Tie as tie
 
 abbrev Inv-loop : tie.InvT-loop
 Inv-loop to from axes axis₀ axis = Stretched (shapeIn to) (shapeIn from) axis

@@ -5,8 +5,8 @@ use borrow.Author.Needs.{needs}
 use Rattle.rules.specs.Record.{naturals}
 use Rattle.shapes.proofs.Products.{Within, laws}
 use Rattle.shapes.proofs.Reading.{in-naturals}
-use Rattle.shapes.proofs.extents.within_limit.Tie as tie
 use Rattle.shapes.proofs.extents.within_limit.Statement.{statement}
+use Rattle.shapes.proofs.extents.within_limit.Tie as tie
 
 abbrev Inv-loop : tie.InvT-loop
 Inv-loop s product₀ k₀ product k = Within (naturals s) k product

@@ -2,8 +2,8 @@
 use Prim.Native.Nat.{_-_}
 use borrow.Author.Needs.{needs}
 use Rattle.shapes.proofs.Products.{Within, laws}
-use Rattle.shapes.proofs.extents.within_product.Tie as tie
 use Rattle.shapes.proofs.extents.within_product.Statement.{statement}
+use Rattle.shapes.proofs.extents.within_product.Tie as tie
 
 abbrev Inv-loop : tie.InvT-loop
 Inv-loop extents product₀ k₀ product k = Within extents k product

@@ -4,8 +4,8 @@ use borrow.Author.Needs.{needs}
 use Rattle.shapes.specs.Judged.{AllJudged}
 use Rattle.shapes.proofs.Common.{agreesAt, agrees-there, agrees-is}
 use Rattle.shapes.proofs.Walking.{AllLeft, all-left, judged-laws}
-use Rattle.shapes.proofs.lists.axis_agrees.Tie as tie
 use Rattle.shapes.proofs.lists.axis_agrees.Statement.{statement}
+use Rattle.shapes.proofs.lists.axis_agrees.Tie as tie
 
 abbrev Inv-loop : tie.InvT-loop
 Inv-loop s n axis common left₀ at₀ left at = AllLeft (agreesAt axis common) n s left at × AllJudged left (drop at s)

@@ -5,8 +5,8 @@ use Rattle.rules.specs.Shapes.{commonExtent}
 use Rattle.shapes.specs.Judged.{shapesOf}
 use Rattle.shapes.proofs.Common.{common-is}
 use Rattle.shapes.proofs.Fitting.{Filled, filled-laws}
-use Rattle.shapes.proofs.lists.common_shape.Tie as tie
 use Rattle.shapes.proofs.lists.common_shape.Statement.{statement}
+use Rattle.shapes.proofs.lists.common_shape.Tie as tie
 
 abbrev Inv-loop : tie.InvT-loop
 Inv-loop s n extents₀ axes axis₀ extents axis = Filled (λ a. commonExtent a (shapesOf n s)) axes axis extents

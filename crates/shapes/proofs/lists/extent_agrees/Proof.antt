@@ -1,8 +1,8 @@
 -- `extent_agrees`: both tests.
 use borrow.Author.Needs.{needs}
 use Rattle.shapes.proofs.Walking.{agree-laws}
-use Rattle.shapes.proofs.lists.extent_agrees.Tie as tie
 use Rattle.shapes.proofs.lists.extent_agrees.Statement.{statement}
+use Rattle.shapes.proofs.lists.extent_agrees.Tie as tie
 
 returns : tie.Need-returns
 returns c = search (needs, agree-laws)

@@ -2,8 +2,8 @@
 use borrow.Author.Needs.{needs}
 use Rattle.rules.specs.Record.{goodShape}
 use Rattle.shapes.proofs.Walking.{AllLeft, all-left}
-use Rattle.shapes.proofs.lists.good_shapes.Tie as tie
 use Rattle.shapes.proofs.lists.good_shapes.Statement.{statement}
+use Rattle.shapes.proofs.lists.good_shapes.Tie as tie
 
 abbrev Inv-loop : tie.InvT-loop
 Inv-loop s n left₀ at₀ left at = AllLeft goodShape n s left at

@@ -1,8 +1,8 @@
 -- `larger`: by the order of the two.
 use borrow.Author.Needs.{needs}
 use Rattle.shapes.proofs.Walking.{larger-laws}
-use Rattle.shapes.proofs.lists.larger.Tie as tie
 use Rattle.shapes.proofs.lists.larger.Statement.{statement}
+use Rattle.shapes.proofs.lists.larger.Tie as tie
 
 returns : tie.Need-returns
 returns c = search (needs, larger-laws)

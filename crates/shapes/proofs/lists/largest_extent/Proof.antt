@@ -5,8 +5,8 @@ use Rattle.rules.specs.Shapes.{extents}
 use Rattle.shapes.specs.Judged.{AllJudged}
 use Rattle.shapes.proofs.Common.{LargestLeft, largest-laws}
 use Rattle.shapes.proofs.Walking.{judged-laws}
-use Rattle.shapes.proofs.lists.largest_extent.Tie as tie
 use Rattle.shapes.proofs.lists.largest_extent.Statement.{statement}
+use Rattle.shapes.proofs.lists.largest_extent.Tie as tie
 
 abbrev Inv-loop : tie.InvT-loop
 Inv-loop s n axis most₀ left₀ at₀ most left at = LargestLeft (λ shape. getD shape axis 1) n s most left at × AllJudged left (drop at s)

@@ -5,8 +5,8 @@ use borrow.Author.Needs.{needs}
 use Rattle.shapes.specs.Judged.{AllJudged}
 use Rattle.shapes.proofs.Common.{LargestLeft, largest-laws}
 use Rattle.shapes.proofs.Walking.{judged-laws}
-use Rattle.shapes.proofs.lists.longest.Tie as tie
 use Rattle.shapes.proofs.lists.longest.Statement.{statement}
+use Rattle.shapes.proofs.lists.longest.Tie as tie
 
 abbrev Inv-loop : tie.InvT-loop
 Inv-loop s n most₀ left₀ at₀ most left at = LargestLeft length n s most left at × AllJudged left (drop at s) × (most ≤ 4)

@@ -2,8 +2,8 @@
 use borrow.Author.Needs.{needs}
 use Rattle.rules.specs.Arguments.{overShape}
 use Rattle.shapes.proofs.Walking.{AnyLeft, any-left}
-use Rattle.shapes.proofs.lists.over_shapes.Tie as tie
 use Rattle.shapes.proofs.lists.over_shapes.Statement.{statement}
+use Rattle.shapes.proofs.lists.over_shapes.Tie as tie
 
 abbrev Inv-loop : tie.InvT-loop
 Inv-loop s n left₀ at₀ left at = AnyLeft overShape n s left at

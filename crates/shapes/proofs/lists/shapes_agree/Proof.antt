@@ -6,8 +6,8 @@ use Rattle.rules.specs.Shapes.{axisAgrees}
 use Rattle.shapes.specs.Judged.{shapesOf}
 use Rattle.shapes.proofs.Common.{agree-is}
 use Rattle.shapes.proofs.Passing.{AllFrom, below-laws}
-use Rattle.shapes.proofs.lists.shapes_agree.Tie as tie
 use Rattle.shapes.proofs.lists.shapes_agree.Statement.{statement}
+use Rattle.shapes.proofs.lists.shapes_agree.Tie as tie
 
 abbrev Inv-loop : tie.InvT-loop
 Inv-loop s n axes axis₀ axis = AllFrom (λ a. axisAgrees a (shapesOf n s)) (below axes) axis

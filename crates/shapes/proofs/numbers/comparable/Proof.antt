@@ -1,8 +1,8 @@
 -- `comparable`: all tests.
 use borrow.Author.Needs.{needs}
 use Rattle.shapes.proofs.Reading.{indices}
-use Rattle.shapes.proofs.numbers.comparable.Tie as tie
 use Rattle.shapes.proofs.numbers.comparable.Statement.{statement}
+use Rattle.shapes.proofs.numbers.comparable.Tie as tie
 
 returns : tie.Need-returns
 returns c = search (needs, indices)

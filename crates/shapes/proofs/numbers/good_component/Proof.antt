@@ -1,8 +1,8 @@
 -- `good_component`: by the sign of the number.
 use borrow.Author.Needs.{needs}
 use Rattle.shapes.proofs.Reading.{reading}
-use Rattle.shapes.proofs.numbers.good_component.Tie as tie
 use Rattle.shapes.proofs.numbers.good_component.Statement.{statement}
+use Rattle.shapes.proofs.numbers.good_component.Tie as tie
 
 sign-at-requires : tie.Need-sign-at-requires
 sign-at-requires c κs = search needs

@@ -5,8 +5,8 @@ use borrow.Author.Needs.{needs}
 use Rattle.rules.specs.Arguments.{upTo, goodComponents}
 use Rattle.rules.specs.Limits.{componentLimit}
 use Rattle.shapes.proofs.Passing.{AllFrom, all-laws}
-use Rattle.shapes.proofs.numbers.good_components.Tie as tie
 use Rattle.shapes.proofs.numbers.good_components.Statement.{statement}
+use Rattle.shapes.proofs.numbers.good_components.Tie as tie
 
 abbrev Inv-loop : tie.InvT-loop
 Inv-loop s k₀ k = AllFrom (upTo componentLimit) s k

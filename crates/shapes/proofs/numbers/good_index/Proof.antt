@@ -1,8 +1,8 @@
 -- `good_index`: both tests.
 use borrow.Author.Needs.{needs}
 use Rattle.shapes.proofs.Reading.{indices}
-use Rattle.shapes.proofs.numbers.good_index.Tie as tie
 use Rattle.shapes.proofs.numbers.good_index.Statement.{statement}
+use Rattle.shapes.proofs.numbers.good_index.Tie as tie
 
 returns : tie.Need-returns
 returns c = search (needs, indices)

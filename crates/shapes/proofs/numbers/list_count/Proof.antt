@@ -1,8 +1,8 @@
 -- `list_count`: by the sign of the count.
 use borrow.Author.Needs.{needs}
 use Rattle.shapes.proofs.Reading.{reading}
-use Rattle.shapes.proofs.numbers.list_count.Tie as tie
 use Rattle.shapes.proofs.numbers.list_count.Statement.{statement}
+use Rattle.shapes.proofs.numbers.list_count.Tie as tie
 
 sign-of-requires : tie.Need-sign-of-requires
 sign-of-requires c κs = search needs

@@ -1,8 +1,8 @@
 -- `natural_at`: by the sign of the number, if one stands there.
 use borrow.Author.Needs.{needs}
 use Rattle.shapes.proofs.Reading.{reading}
-use Rattle.shapes.proofs.numbers.natural_at.Tie as tie
 use Rattle.shapes.proofs.numbers.natural_at.Statement.{statement}
+use Rattle.shapes.proofs.numbers.natural_at.Tie as tie
 
 returns : tie.Need-returns
 returns c = search (needs, reading)

@@ -3,8 +3,8 @@ use Prim.Native.Nat.{_-_}
 use lib.ListN.{length}
 use borrow.Author.Needs.{needs}
 use Rattle.shapes.proofs.Locating.{Alike, cmp-laws}
-use Rattle.shapes.proofs.positions.cmp.Tie as tie
 use Rattle.shapes.proofs.positions.cmp.Statement.{statement}
+use Rattle.shapes.proofs.positions.cmp.Tie as tie
 
 abbrev Inv-loop : tie.InvT-loop
 Inv-loop a b order₀ k₀ order k = Alike a b order k

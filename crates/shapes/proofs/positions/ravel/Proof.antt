@@ -3,8 +3,8 @@ use Prim.Native.Nat.{_-_}
 use lib.ListN.{length}
 use borrow.Author.Needs.{needs}
 use Rattle.shapes.proofs.Locating.{Raveled, ravel-laws}
-use Rattle.shapes.proofs.positions.ravel.Tie as tie
 use Rattle.shapes.proofs.positions.ravel.Statement.{statement}
+use Rattle.shapes.proofs.positions.ravel.Tie as tie
 
 abbrev Inv-loop : tie.InvT-loop
 Inv-loop index shape number₀ k₀ number k = Raveled index shape k number

@@ -2,8 +2,8 @@
 use borrow.Author.Needs.{needs}
 use Rattle.rules.specs.Record.{shapeIn}
 use Rattle.shapes.proofs.Locating.{Unraveled, unravel-laws}
-use Rattle.shapes.proofs.positions.unravel.Tie as tie
 use Rattle.shapes.proofs.positions.unravel.Statement.{statement}
+use Rattle.shapes.proofs.positions.unravel.Tie as tie
 
 abbrev Inv-loop : tie.InvT-loop
 Inv-loop n shape index₀ rest₀ k₀ index rest k = Unraveled n (shapeIn shape) index rest k

@@ -1,0 +1,4 @@
+pub mod Judged
+pub mod Tuples
+pub mod Listed
+pub mod Required

@@ -1,0 +1,224 @@
+-- `load`: the sections of a record, each at its place in a part. Assumes nothing.
+use mathlib.Core.Path.{_≡_, sym, ap, _∙_}
+use mathlib.Core.Bool.{true}
+use mathlib.Core.List.{List}
+use mathlib.Core.Logic.{inl}
+use Prim.Native.Nat.{ℕ, _+_, _*_, _-_, _<_, _≤_}
+use native.Mathlib.Nat.{add-zero, mul-le-mul-right}
+use native.Mathlib.Omega.{arith}
+use lib.IntN.{ℤ}
+use lib.ListN.{length, getD, take}
+use lib.Signed.{nonNeg}
+use Rattle.rules.specs.declared.Head.{Head}
+use Rattle.rules.specs.declared.Entries.{Entries}
+use Rattle.rules.specs.declared.Walk.the-variants.{To}
+use Rattle.rules.specs.Buffers.{part, put}
+use Rattle.rules.specs.Lists.{all}
+use Rattle.rules.specs.Layout.{soundLayout}
+use Rattle.rules.specs.Record.{walk, sound, rowsOf, layoutBy, layoutIn}
+use Rattle.rules.proofs.Buffers.{length-part, part-part, part-put-all}
+use Rattle.rules.proofs.Same.{both-true}
+use Rattle.rules.proofs.Soundness.{Sound, sound-true}
+use Rattle.cells.specs.View.{code, view}
+use Rattle.cells.proofs.View.{view-getD, view-part}
+use Rattle.tables.specs.Rows.{rowsAt}
+use Rattle.tables.specs.Tables.{tableAt, Only}
+use Rattle.tables.proofs.Rows.{row-number, rows-part}
+use Rattle.tables.proofs.Tables.{table-rows}
+use Rattle.tables.proofs.Only.{only-then, only-wider, only-put, part-outside}
+use Rattle.records.specs.Sections.{Laid}
+use Rattle.records.specs.Judging.{Plain}
+use Rattle.records.proofs.Layouts.{axes, bounds, seen, layout-seen, has-states, has-inputs}
+use Rattle.parts.specs.Parts.{kindAt, denseAt, rankAt, layoutAt}
+use Rattle.parts.specs.Answers.{Loaded}
+
+-- ---- numbers that are copied
+
+-- the n numbers from b of s on are copied to a of t, which makes it u
+record Copied (a b n : ℕ) (s t u : List ℤ) : Type 0 where
+  there : part a n u ≡ part b n s
+  only : Only a (a + n) t u
+
+copied : (a b n : ℕ) (s t : List ℤ) {u : List ℤ} → b + n ≤ length s → a + n ≤ length t → u ≡ put a (part b n s) t →
+    Copied a b n s t u
+copied a b n s t h l e =
+    let long : length (part b n s) ≡ n = length-part b n s h in
+    rw e (record { there = rw long at (part-put-all a (part b n s) t (omega arith)); only = rw long at (only-put a (part b n s) t (omega arith)) })
+
+-- one write, and another one behind it
+only-on : {a f b e : ℕ} {t u v : List ℤ} → Only a f t u → Only b e u v → a ≤ b → f ≤ e → Only a e t v
+only-on {a} {f} {b} {e} o q h l = only-then (only-wider o a e (omega arith) l) (only-wider q a e h (omega arith))
+
+module _ (a b n : ℕ) (s t : List ℤ) (e : part a n t ≡ part b n s) where
+  -- one of them
+  number-copied : (k : ℕ) → k < n → getD (view t) (a + k) 0 ≡ getD (view s) (b + k) 0
+  number-copied k h =
+      let same : part a n (view t) ≡ part b n (view s) = sym (view-part a n t) ∙ ap view e ∙ view-part b n s in
+      sym (row-number a n k t h) ∙ ap (λ (l : List ℕ). getD l k 0) same ∙ row-number b n k s h
+
+  -- some of them
+  part-copied : (k m : ℕ) → k + m ≤ n → part (a + k) m t ≡ part (b + k) m s
+  part-copied k m h = sym (part-part a n k m t h) ∙ ap (part k m) e ∙ part-part b n k m s h
+
+  -- a table
+  table-copied : (w c : ℕ) → getD (view s) b 0 ≡ c → 1 + c * w ≤ n → tableAt a w t ≡ rowsAt (b + 1) w c s
+  table-copied w c f h =
+      let first : getD (view t) a 0 ≡ getD (view s) b 0 = simp add-zero at (number-copied 0 (omega arith)) in
+      table-rows a w c t (sym (first ∙ f)) ∙ rows-part (a + 1) w c t
+      ∙ ap (λ (l : List ℤ). rowsOf w c (view l)) (part-copied 1 (c * w) h)
+      ∙ sym (rows-part (b + 1) w c s)
+
+-- ---- the places of a record's sections
+
+-- each section is as long as its room at most
+pub record Places (h : Head) (s : List ℤ) : Type 0 where
+  pub head-few : h .rank ≤ 4
+  pub rows-up : h .rank + 3 ≤ h .rows .next
+  pub rows-few : h .rows .next ≤ h .rank + 516
+  pub states-up : h .rows .next ≤ h .states .next
+  pub states-few : h .states .next ≤ h .rows .next + 641
+  pub inputs-up : h .states .next ≤ h .inputs .next
+  pub inputs-few : h .inputs .next ≤ h .states .next + 641
+  pub inside : h .inputs .next ≤ length s
+
+-- a section of at most 128 entries
+section-few : {i w : ℕ} {s : List ℤ} {e : Entries} → Laid i w s e → e .count ≤ 128 → (i + 1 ≤ e .next) × (e .next ≤ i + 1 + 128 * w)
+section-few {i} {w} {s} {e} l few = let k : e .count * w ≤ 128 * w = mul-le-mul-right w few in (omega arith, omega arith)
+
+-- its count as it is seen, and its size
+section-size : {i w : ℕ} {s : List ℤ} {e : Entries} → Laid i w s e → (getD (view s) i 0 ≡ e .count) × (1 + e .count * w ≤ e .next - i)
+section-size {i} {w} {s} {e} l = (view-getD s i ∙ ap code (l .count), omega arith)
+
+module _ {h : Head} {s : List ℤ} (p : Plain h s) where
+  pub places : Places h s
+  places =
+      let b = bounds p in
+      let rows = section-few (p .head .rows) (b .rows-few) in
+      let states = section-few (p .head .states) (b .states-few) in
+      let inputs = section-few (p .head .inputs) (b .inputs-few) in
+      record {
+        head-few = b .rank-few;
+        rows-up = omega arith;
+        rows-few = omega arith;
+        states-up = omega arith;
+        states-few = omega arith;
+        inputs-up = omega arith;
+        inputs-few = omega arith;
+        inside = b .end-in;
+      }
+
+  -- the layout of the record is the one that its slice shows
+  layout-in : walk s ≡ To h → layoutIn s ≡ seen h s
+  unfolding layoutIn
+  layout-in e = rw e (layout-seen p)
+
+  -- a record that tests as sound has a sound layout
+  sound-in : walk s ≡ To h → sound s ≡ true → Sound (layoutIn s)
+  unfolding sound layoutIn
+  sound-in e t = rw e (sound-true (both-true (all nonNeg (take (h .inputs .next) s)) (soundLayout (layoutBy h s)) (rw e at t) .1))
+
+  -- ---- the part after the four writes
+
+  module _ (at : ℕ) (t : List ℤ) {t₁ t₂ t₃ t₄ : List ℤ} (room : at + 1802 ≤ length t)
+      (p₁ : t₁ ≡ put at (part 0 (h .rank + 3 - 0) s) t)
+      (p₂ : t₂ ≡ put (at + 7) (part (h .rank + 3) (h .rows .next - (h .rank + 3)) s) t₁)
+      (p₃ : t₃ ≡ put (at + 520) (part (h .rows .next) (h .states .next - h .rows .next) s) t₂)
+      (p₄ : t₄ ≡ put (at + 1161) (part (h .states .next) (h .inputs .next - h .states .next) s) t₃) where
+    -- each write
+    c₁ : Copied at 0 (h .rank + 3 - 0) s t t₁
+    c₁ = let b = places in copied at 0 (h .rank + 3 - 0) s t (omega arith) (omega arith) p₁
+
+    c₂ : Copied (at + 7) (h .rank + 3) (h .rows .next - (h .rank + 3)) s t₁ t₂
+    c₂ = let b = places in copied (at + 7) (h .rank + 3) (h .rows .next - (h .rank + 3)) s t₁ (omega arith) (omega (arith, c₁ .only .size)) p₂
+
+    c₃ : Copied (at + 520) (h .rows .next) (h .states .next - h .rows .next) s t₂ t₃
+    c₃ =
+        let b = places in
+        copied (at + 520) (h .rows .next) (h .states .next - h .rows .next) s t₂ (omega arith) (omega (arith, c₁ .only .size, c₂ .only .size)) p₃
+
+    c₄ : Copied (at + 1161) (h .states .next) (h .inputs .next - h .states .next) s t₃ t₄
+    c₄ =
+        let b = places in
+        copied (at + 1161) (h .states .next) (h .inputs .next - h .states .next) s t₃ (omega arith)
+        (omega (arith, c₁ .only .size, c₂ .only .size, c₃ .only .size)) p₄
+
+    -- what is written later stands behind
+    from-inputs : Only (at + 1161) (at + 1802) t₃ t₄
+    from-inputs = let b = places in only-wider (c₄ .only) (at + 1161) (at + 1802) (omega arith) (omega arith)
+
+    from-states : Only (at + 520) (at + 1802) t₂ t₄
+    from-states = let b = places in only-on (c₃ .only) from-inputs (omega arith) (omega arith)
+
+    from-rows : Only (at + 7) (at + 1802) t₁ t₄
+    from-rows = let b = places in only-on (c₂ .only) from-states (omega arith) (omega arith)
+
+    from-head : Only at (at + 1802) t t₄
+    from-head = let b = places in only-on (c₁ .only) from-rows (omega arith) (omega arith)
+
+    -- each section in the end
+    head-there : part at (h .rank + 3 - 0) t₄ ≡ part 0 (h .rank + 3 - 0) s
+    head-there = let b = places in part-outside from-rows at (h .rank + 3 - 0) (inl (omega arith)) ∙ c₁ .there
+
+    rows-there : tableAt (at + 7) (h .width) t₄ ≡ rowsAt (h .rows .first) (h .width) (h .rows .count) s
+    rows-there =
+        let b = places in
+        let size : ℕ = h .rows .next - (h .rank + 3) in
+        let there : part (at + 7) size t₄ ≡ part (h .rank + 3) size s =
+        part-outside from-states (at + 7) size (inl (omega arith)) ∙ c₂ .there in
+        let l = section-size (p .head .rows) in
+        rw (p .head .rows .first) (table-copied (at + 7) (h .rank + 3) size s t₄ there (h .width) (h .rows .count) (l .0) (l .1))
+
+    states-there : tableAt (at + 520) (h .rank + 1) t₄ ≡ rowsAt (h .states .first) (h .rank + 1) (h .states .count) s
+    states-there =
+        let b = places in
+        let size : ℕ = h .states .next - h .rows .next in
+        let there : part (at + 520) size t₄ ≡ part (h .rows .next) size s =
+        part-outside from-inputs (at + 520) size (inl (omega arith)) ∙ c₃ .there in
+        let l = section-size (p .head .states) in
+        rw (p .head .states .first) (table-copied (at + 520) (h .rows .next) size s t₄ there (h .rank + 1) (h .states .count) (l .0) (l .1))
+
+    inputs-there : tableAt (at + 1161) (h .rank + 1) t₄ ≡ rowsAt (h .inputs .first) (h .rank + 1) (h .inputs .count) s
+    inputs-there =
+        let size : ℕ = h .inputs .next - h .states .next in
+        let l = section-size (p .head .inputs) in
+        rw (p .head .inputs .first)
+        (table-copied (at + 1161) (h .states .next) size s t₄ (c₄ .there) (h .rank + 1) (h .inputs .count) (l .0) (l .1))
+
+    -- the head
+    number-there : (k : ℕ) → k < 3 → getD (view t₄) (at + k) 0 ≡ getD (view s) (0 + k) 0
+    number-there k l = number-copied at 0 (h .rank + 3 - 0) s t₄ head-there k (omega arith)
+
+    kind-there : kindAt at t₄ ≡ getD (view s) 0 0
+    kind-there = simp add-zero at (number-there 0 (omega arith))
+
+    dense-there : denseAt at t₄ ≡ getD (view s) 1 0
+    dense-there = number-there 1 (omega arith)
+
+    rank-there : rankAt at t₄ ≡ h .rank
+    rank-there = number-there 2 (omega arith) ∙ view-getD s 2 ∙ ap code (p .head .rank)
+
+    shape-there : part (at + 3) (h .rank) (view t₄) ≡ part 3 (h .rank) (view s)
+    shape-there =
+        sym (view-part (at + 3) (h .rank) t₄)
+        ∙ ap view (part-copied at 0 (h .rank + 3 - 0) s t₄ head-there 3 (h .rank) (omega arith))
+        ∙ view-part 3 (h .rank) s
+
+    -- the layout of the part is the one that the record shows
+    layout-there : layoutAt at t₄ ≡ seen h s
+    unfolding layoutAt
+    layout-there =
+        let width : h .rank - getD (view s) 1 0 ≡ h .width = omega (arith, axes p) in
+        rw (kind-there, dense-there, rank-there, width, shape-there, rows-there, states-there, inputs-there)
+
+    pub is-loaded : walk s ≡ To h → sound s ≡ true → Loaded at s t t₄
+    is-loaded e f =
+        let same : layoutAt at t₄ ≡ layoutIn s = layout-there ∙ sym (layout-in e) in
+        record {
+          layout = same;
+          holds = record {
+            inside = omega (arith, from-head .size);
+            sound = rw same (sound-in e f);
+            low = rw layout-there (record { states-low = has-states p .low; inputs-low = has-inputs p .low });
+          };
+          only = from-head;
+        }

@@ -1,0 +1,46 @@
+-- What the functions of this crate answer, and what the lent slices then hold.
+use mathlib.Core.Path.{_≡_}
+use mathlib.Core.List.{List, map}
+use Prim.Native.Nat.{ℕ, _+_, _≤_}
+use lib.IntN.{ℤ, pos}
+use lib.ListN.{length}
+use Rattle.rules.specs.declared.Step.{Step}
+use Rattle.rules.specs.declared.Written.{Written}
+use Rattle.rules.specs.Buffers.{over, put, zeros}
+use Rattle.rules.specs.Refusals.{Verdict, inForm}
+use Rattle.rules.specs.Layout.{section, encode}
+use Rattle.rules.specs.Record.{layoutIn}
+use Rattle.rules.specs.Endings.{writtenSays, stepSays, resultAfter}
+use Rattle.tables.specs.Tables.{tableAt, roomEnd, Only}
+use Rattle.parts.specs.Parts.{layoutAt, Holds}
+
+-- the part at a place holds the layout of a record, and all else is as it was
+pub record Loaded (at : ℕ) (from work work′ : List ℤ) : Type 0 where
+  pub layout : layoutAt at work′ ≡ layoutIn from
+  pub holds : Holds at work′
+  pub only : Only at (at + 1802) work work′
+
+-- the numbers of a table: its count, then its rows
+abbrev pub numbersOf : List (List ℕ) → List ℤ
+numbersOf rows = map pos (section rows)
+
+-- the table at a place of s is written to a place of t, which makes it u; r is the place behind it
+pub record TableStored (at w to : ℕ) (s t u : List ℤ) (r : ℕ) : Type 0 where
+  pub is : u ≡ put to (numbersOf (tableAt at w s)) t
+  pub next : r ≡ to + length (numbersOf (tableAt at w s))
+  pub upto : r ≤ roomEnd to w
+
+-- the layout of the part of s is written to the front of t as a record of r numbers, which makes it u
+pub record Stored (at : ℕ) (s t u : List ℤ) (r : ℕ) : Type 0 where
+  pub is : u ≡ over (encode (layoutAt at s)) t
+  pub count : r ≡ length (encode (layoutAt at s))
+
+-- what a step says of the part at a place, as a record
+abbrev pub recordSaid : Step → ℕ → List ℤ → Verdict (List ℤ)
+recordSaid step at work = inForm encode (stepSays step (layoutAt at work))
+
+-- the end of a step: its answer, its record in the result, and a clear working buffer
+pub record Finished (step : Step) (at : ℕ) (work result : List ℤ) (r : Written) (work′ result′ : List ℤ) : Type 0 where
+  pub answer : writtenSays r ≡ inForm length (recordSaid step at work)
+  pub result-is : result′ ≡ resultAfter (recordSaid step at work) result
+  pub work-is : work′ ≡ over (zeros 10812) work
