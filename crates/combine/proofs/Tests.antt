@@ -1,0 +1,129 @@
+-- What the heads of two layouts tell: their shapes, kinds and dense axes. Assumes nothing.
+use mathlib.Core.Path.{_≡_, refl, sym, ap, _∙_}
+use mathlib.Core.Bool.{Bool, true, false, _&&_}
+use mathlib.Core.List.{List}
+use Prim.Native.Nat.{ℕ, _+_, _-_, _<_, _≤_}
+use native.Mathlib.Omega.{arith}
+use borrow.Author.Tests.{eqb-true, eqb-false, ne-eqb, lt-ltb}
+use lib.Dec.{eqb, ltb}
+use lib.IntN.{ℤ}
+use lib.ListN.{length, getD, drop}
+use Rattle.rules.specs.Lists.{same, product}
+use Rattle.rules.specs.Buffers.{part}
+use Rattle.rules.specs.Layout.{rank, isDense}
+use Rattle.rules.specs.Removal.{lowerD, listsRow, barsExpansion}
+use Rattle.rules.specs.Union.{alikeDiagonals}
+use Rattle.rules.proofs.Same.{same-true}
+use Rattle.rules.proofs.Listed.{lists-between, lists-zero, lists-same}
+use Rattle.cells.specs.View.{view}
+use Rattle.tables.proofs.Tables.{table-length}
+use Rattle.parts.specs.Parts.{kindAt, denseAt, rankAt, layoutAt, Holds}
+use Rattle.parts.proofs.Holds.{rank-most, rank-is}
+use Rattle.lowering.specs.Lowering.{Axes, lastAxes}
+use Rattle.combine.specs.Uniting.{Both}
+
+-- ---- shapes
+
+-- shapes of two lengths are not the same
+lengths-differ : (p q : List ℕ) → (length p ≡ length q → ⊥) → same p q ≡ false
+lengths-differ p q n = go (same p q) refl
+  where
+    go : (t : Bool) → same p q ≡ t → t ≡ false
+    go true e = absurd (n (ap length (same-true e)))
+    go false e = refl
+
+module _ {a b : ℕ} {s : List ℤ} (h : Both a b s) where
+  -- ranks that differ
+  pub ranks-differ : {r : Bool} → r ≡ eqb (rankAt a s) (rankAt b s) → r ≡ false → false ≡ same (layoutAt a s .shape) (layoutAt b s .shape)
+  ranks-differ e f = sym (lengths-differ (layoutAt a s .shape) (layoutAt b s .shape) (λ k. eqb-false (rankAt a s) (rankAt b s) (sym e ∙ f) (sym (rank-is (h .first)) ∙ k ∙ rank-is (h .second))))
+
+  -- ranks that agree
+  pub ranks-agree : {r : Bool} → r ≡ eqb (rankAt a s) (rankAt b s) → r ≡ true → rankAt a s ≡ rankAt b s
+  ranks-agree e t = eqb-true (rankAt a s) (rankAt b s) (sym e ∙ t)
+
+  -- the extents there
+  pub extents-inside : {n : ℕ} → n ≡ rankAt a s → (a + 3 + n ≤ length s) × (b + 3 + n ≤ length s)
+  extents-inside e = let m = rank-most (h .first) in (omega (arith, h .first .inside), omega (arith, h .second .inside))
+
+  pub shapes-tell : {n : ℕ} {r : Bool} → n ≡ rankAt a s → rankAt a s ≡ rankAt b s → r ≡ same (part (a + 3) n (view s)) (part (b + 3) n (view s)) →
+      r ≡ same (layoutAt a s .shape) (layoutAt b s .shape)
+  unfolding layoutAt
+  shapes-tell e k t = rw (← k, ← e) t
+
+-- ---- kinds
+
+module _ {at : ℕ} {s : List ℤ} (h : Holds at s) where
+  pub dense-tell : {k : ℕ} → k ≡ kindAt at s → eqb k 0 ≡ isDense (layoutAt at s)
+  unfolding layoutAt
+  dense-tell e = rw e
+
+  -- no diagonal
+  pub bars-other : {k : ℕ} → k ≡ kindAt at s → (k ≡ 1 → ⊥) → false ≡ barsExpansion (layoutAt at s)
+  unfolding layoutAt
+  bars-other e n = rw (← e, ne-eqb _ 1 n)
+
+  -- a diagonal with dense axes or without
+  pub bars-diagonal : {k d : ℕ} → k ≡ kindAt at s → k ≡ 1 → d ≡ denseAt at s → ltb 0 d ≡ barsExpansion (layoutAt at s)
+  unfolding layoutAt
+  bars-diagonal e o f = rw (← e, o, ← f)
+
+module _ {a b : ℕ} {s : List ℤ} (both : Both a b s) where
+  pub alike-not-first : {k : ℕ} → k ≡ kindAt a s → (k ≡ 1 → ⊥) → false ≡ alikeDiagonals (layoutAt a s) (layoutAt b s)
+  unfolding layoutAt
+  alike-not-first e n = rw (← e, ne-eqb _ 1 n)
+
+  pub alike-not-second : {k l : ℕ} → k ≡ kindAt a s → k ≡ 1 → l ≡ kindAt b s → (l ≡ 1 → ⊥) → false ≡ alikeDiagonals (layoutAt a s) (layoutAt b s)
+  unfolding layoutAt
+  alike-not-second e o f n = rw (← e, o, ← f, ne-eqb _ 1 n)
+
+  pub alike-both : {k l : ℕ} {r : Bool} → k ≡ kindAt a s → k ≡ 1 → l ≡ kindAt b s → l ≡ 1 → r ≡ eqb (denseAt a s) (denseAt b s) →
+      r ≡ alikeDiagonals (layoutAt a s) (layoutAt b s)
+  unfolding layoutAt
+  alike-both e o f p t = rw (← e, o, ← f, p) t
+
+  -- ---- dense axes
+
+  pub lower-first : {d e : ℕ} → d ≡ denseAt a s → e ≡ denseAt b s → d < e → d ≡ lowerD (layoutAt a s) (layoutAt b s)
+  unfolding layoutAt
+  lower-first p q h = omega arith
+
+  pub lower-second : {d e : ℕ} → d ≡ denseAt a s → e ≡ denseAt b s → e ≤ d → e ≡ lowerD (layoutAt a s) (layoutAt b s)
+  unfolding layoutAt
+  lower-second p q h = omega arith
+
+module _ (d : ℕ) {at : ℕ} {s : List ℤ} (k : Holds at s) where
+  pub lists-at-zero : d ≡ 0 → false ≡ listsRow (layoutAt at s) d
+  lists-at-zero e = sym (lists-zero (layoutAt at s) e)
+
+  module _ {dense : ℕ} (e : dense ≡ denseAt at s) where
+    pub lists-at-same : dense ≤ d → false ≡ listsRow (layoutAt at s) d
+    unfolding layoutAt
+    lists-at-same h = sym (lists-same (layoutAt at s) (omega arith))
+
+    module _ (g : d ≡ 0 → ⊥) (h : d < dense) {count : ℕ} (c : count ≡ getD (view s) (at + 7) 0) where
+      tell : listsRow (layoutAt at s) d ≡ ltb 0 count && ltb 0 (product (drop (rank (layoutAt at s) - (dense - d)) (layoutAt at s .shape)))
+      unfolding layoutAt
+      tell = lists-between (layoutAt at s) (omega arith) (omega arith) ∙ rw (table-length, c, e)
+
+      pub lists-no-rows : count ≡ 0 → false ≡ listsRow (layoutAt at s) d
+      lists-no-rows z = rw (tell, z)
+
+      module _ {n : ℕ} (r : n ≡ rankAt at s) where
+        pub removed-axes : Axes (at + 3) (n - (dense - d)) n s
+        unfolding layoutAt
+        removed-axes =
+            let m = rank-most k in
+            record {
+              room = omega (arith, k .inside);
+              upto = omega arith;
+              narrow = omega arith;
+              small = rw r (k .sound .sizes .product-most);
+            }
+
+        pub lists-some : (count ≡ 0 → ⊥) → {size : ℕ} → size ≡ product (lastAxes (at + 3) (n - (dense - d)) n s) → ltb 0 size ≡ listsRow (layoutAt at s) d
+        unfolding layoutAt
+        lists-some z p = rw (tell, rank-is k, ← r, lt-ltb 0 count (omega arith), p)
+
+pub ruleset laws = (ranks-differ, ranks-agree, extents-inside, shapes-tell, dense-tell, bars-other, bars-diagonal, alike-not-first, alike-not-second, alike-both, lower-first, lower-second)
+
+pub ruleset lists-laws = (lists-at-zero, lists-at-same, lists-no-rows, removed-axes, lists-some)

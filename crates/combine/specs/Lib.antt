@@ -1,0 +1,2 @@
+-- The definitions that the contracts of combine cite.
+pub mod Uniting

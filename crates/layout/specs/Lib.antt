@@ -1,0 +1,2 @@
+-- What the contracts inside layout cite.
+pub mod Pairs

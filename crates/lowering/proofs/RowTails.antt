@@ -1,0 +1,124 @@
+-- `list_row`: the row with the first indices of the last axes behind it is in the table. Assumes nothing.
+use mathlib.Core.Path.{_≡_, refl, sym, _∙_}
+use mathlib.Core.Bool.{Bool, true, false}
+use mathlib.Core.List.{List, [], _∷_, _++_}
+use Prim.Native.Nat.{ℕ, zero, suc, _+_, _^_, _<_, _≤_}
+use native.Mathlib.Omega.{arith}
+use lib.IntN.{ℤ}
+use lib.ListN.{length, getD, take, length-map, List·getD-eq-default}
+use lib.Seq.{getD-drop}
+use Rattle.rules.specs.Limits.{productLimit}
+use Rattle.rules.specs.Lists.{allBelow}
+use Rattle.rules.specs.Removal.{positions}
+use Rattle.rules.proofs.Order.{ComparedNumbers, under, even, above, compareNumbers}
+use Rattle.rules.proofs.Extents.{extent-nonzero}
+use Rattle.rules.proofs.Places.{in-at}
+use Rattle.rules.proofs.Ranges.{map-at}
+use Rattle.rules.proofs.Indices.{positions-only, positions-length}
+use Rattle.rules.proofs.Low.{below-at}
+use Rattle.cells.specs.View.{Low}
+use Rattle.tables.specs.Rows.{rowAt, HasRow}
+use Rattle.tables.specs.Tables.{Ready, Put}
+use Rattle.tables.proofs.Only.{row-outside}
+use Rattle.lowering.specs.Lowering.{lastAxes, TailAsked, withTails, Taken, RowAsked}
+use Rattle.lowering.proofs.Taking.{taken-none, taken-all, taken-next, taken-over}
+
+-- ---- numbers that are not negative
+
+pub low-append : (a b : List ℕ) → Low a → Low b → Low (a ++ b)
+low-append [] b f g k = g k
+low-append (x ∷ a) b f g zero = f 0
+low-append (x ∷ a) b f g (suc k) = low-append a b (λ j. f (suc j)) g k
+
+-- an index of a shape whose extents are small
+index-low : (axes : List ℕ) → ((k : ℕ) → getD axes k 0 ≤ productLimit) → (n : ℕ) → n < length (positions axes) → Low (getD (positions axes) n [])
+index-low axes f n h k = go (compareNumbers k (length index))
+  where
+    index : List ℕ
+    index = getD (positions axes) n []
+
+    is : (length index ≡ length axes) × (allBelow index axes ≡ true)
+    is = positions-only axes (in-at (positions axes) n h)
+
+    past : length index ≤ k → getD index k 0 < 2 ^ 31
+    past g = omega (arith, List·getD-eq-default index 0 g)
+
+    go : ComparedNumbers k (length index) → getD index k 0 < 2 ^ 31
+    go (under g) = omega (arith, below-at index axes (is .1) k g (omega (arith, is .0)), f k)
+    go (even g) = past (omega arith)
+    go (above g) = past (omega arith)
+
+-- ---- the walk
+
+pub record RowTails (from extents w rank size to number : ℕ) (row s t : List ℤ) : Type 0 where
+  pub asked : RowAsked from extents w rank size to s
+  pub row-is : rowAt 0 w row ≡ rowAt from w s
+  pub upto : number ≤ size
+  pub taken : Taken to rank (take number (withTails (rowAt from w s) (lastAxes extents w rank s))) s t true
+
+module _ {from extents w rank size to : ℕ} {row s : List ℤ} where
+  pub start : RowAsked from extents w rank size to s → rowAt 0 w row ≡ rowAt from w s → RowTails from extents w rank size to 0 row s s
+  start a e = record { asked = a; row-is = e; upto = omega arith; taken = taken-none (a .target) }
+
+  module _ {number : ℕ} {t : List ℤ} (g : RowTails from extents w rank size to number row s t) where
+    abbrev axes : List ℕ
+    axes = lastAxes extents w rank s
+
+    abbrev rows : List (List ℕ)
+    rows = withTails (rowAt from w s) axes
+
+    count : length rows ≡ size
+    count = rw (length-map, positions-length) (sym (g .asked .size-is))
+
+    shape-same : rowAt extents rank t ≡ rowAt extents rank s
+    shape-same = row-outside (g .taken .only) extents rank (g .asked .axes-apart)
+
+    pub ask-tail : number < size → TailAsked extents w rank number t
+    ask-tail h = record {
+      axes = record {
+        room = rw (g .taken .only .size) (g .asked .axes .room);
+        upto = g .asked .axes .upto;
+        narrow = g .asked .axes .narrow;
+        small = rw shape-same (g .asked .axes .small);
+      };
+      within = rw (shape-same, ← g .asked .size-is) h;
+    }
+
+    pub can-take : Ready to rank t
+    can-take = g .taken .ready refl
+
+    pub done : size ≤ number → Taken to rank rows s t true
+    done h = taken-all number rows (g .taken) (rw count h)
+
+    module _ (h : number < size) (full : List ℤ) (is : rowAt 0 rank full ≡ rowAt 0 w row ++ getD (positions (lastAxes extents w rank t)) number []) where
+      next : rowAt 0 rank full ≡ getD rows number []
+      next =
+          is ∙ rw (g .row-is, shape-same)
+          (sym (map-at (λ t. rowAt from w s ++ t) (positions axes) number [] [] (rw (positions-length, ← g .asked .size-is) h)))
+
+      next-low : Low (rowAt 0 rank full)
+      next-low =
+          let inside : number < length (positions axes) = rw (positions-length, ← g .asked .size-is) h in
+          let extent : (k : ℕ) → getD axes k 0 ≤ productLimit =
+          λ k. rw getD-drop (omega (arith, extent-nonzero (rowAt extents rank s) (w + k), g .asked .axes .small)) in
+          rw (is, g .row-is, shape-same) (low-append (rowAt from w s) (getD (positions axes) number []) (g .asked .row .low) (index-low axes extent number inside))
+
+      pub full-row : length full ≡ 5 → HasRow 0 rank full
+      full-row l = record { room = let n = g .asked .axes .narrow in omega arith; low = next-low }
+
+      module _ {u : List ℤ} {r : Bool} (p : Put to rank (rowAt 0 rank full) t u r) where
+        put-next : Put to rank (getD rows number []) t u r
+        put-next = rw next at p
+
+        pub turn : r ≡ true → RowTails from extents w rank size to (number + 1) row s u
+        turn e = record {
+          asked = g .asked;
+          row-is = g .row-is;
+          upto = omega arith;
+          taken = taken-next number rows (g .taken) (rw count h) e (rw next at next-low) put-next;
+        }
+
+        pub stop : r ≡ false → Taken to rank rows s u false
+        stop e = taken-over number rows (g .taken) (rw count h) e (rw next at next-low) put-next
+
+pub ruleset laws = (start, ask-tail, can-take, full-row, turn, stop, done)

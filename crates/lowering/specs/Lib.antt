@@ -1,0 +1,2 @@
+-- The definitions that the contracts of lowering cite.
+pub mod Lowering
