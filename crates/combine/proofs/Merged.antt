@@ -97,5 +97,3 @@ module _ {a b to w : ℕ} {s t : List ℤ} {r : Bool} (q : DepsAsked a b to s) (
           inputs = λ z. rw (← e) (i .table z ∙ inputs-then);
           only = only-then (states-only q e p) (only-wider (i .only) (to + 520) (to + 1802) (omega arith) (omega arith));
         }
-
-pub ruleset laws = (ask-states, states-stop, ask-then, deps-made)

@@ -116,5 +116,3 @@ module _ {a b to : ℕ} {s : List ℤ} (q : UnionAsked a b to s) where
 
     pub rows-made : {t : List ℤ} {few : Bool} {step : Step} → w ≡ Rows → Made to (unitedRows x y) s t few → step ≡ madeStep few → UnionMade a b to s t step
     rows-made e m p = rw p (finish (united-rows (q .both .first .sound) (q .both .second .sound) shapes (way-told x y w-is e)) m)
-
-pub ruleset laws = (shapes-stop, barred, listing, ask-dense, dense-made, ask-diagonal, diagonal-made, ask-rows, rows-made)

@@ -159,5 +159,3 @@ module _ {at to d : ℕ} {s : List ℤ} (a : LowerAsked at to d s) where
         let width : rankAt at s - d ≡ w = omega arith in
         rw (full-made l (sparse n) above zero, width)
         (cleared-listed s (a .room) e m (rw (layout-outside (cleared-only s (a .room) e) (a .apart) (a .holds)) at p))
-
-pub ruleset laws = (ask-diagonal, diagonal-listed, ask-sort, sorted-listed, none-listed, ask-full, full-listed)
