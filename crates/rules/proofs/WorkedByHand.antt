@@ -66,6 +66,9 @@ pub record Table : Type 0 where
   -- two diagonals: a dependency off the diagonal is kept
   pub unfiltered : intersect (layout 1 0 (two 2 2) [] ((0 ∷ 1 ∷ 7 ∷ []) ∷ [])) (layout 1 0 (two 2 2) [] [])
       ≡ given (layout 1 0 (two 2 2) [] ((0 ∷ 1 ∷ 7 ∷ []) ∷ []))
+  -- a lowered union: dependencies are merged as they are, not expanded
+  pub unexpanded : union (layout 2 1 (two 2 2) ((1 ∷ []) ∷ []) ((1 ∷ 0 ∷ 7 ∷ []) ∷ [])) (layout 2 0 (two 2 2) (two 1 0 ∷ []) [])
+      ≡ given (layout 2 0 (two 2 2) (two 1 0 ∷ two 1 1 ∷ []) ((1 ∷ 0 ∷ 7 ∷ []) ∷ []))
 
 pub table : Table
 unfolding all any keep gather none from product sum largest same sameRows allBelow with fitTo part
@@ -91,4 +94,5 @@ table = record {
   p9 = refl;
   p9-lookup = refl;
   unfiltered = refl;
+  unexpanded = refl;
 }
