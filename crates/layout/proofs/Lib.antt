@@ -1,7 +1,10 @@
+-- Laws that the proofs of the public functions cite.
 pub mod Judged
-pub mod Pairs
-pub mod Loaded
-pub mod Unions
 pub mod Tuples
 pub mod Listed
 pub mod Required
+pub mod SoundRecords
+pub mod Results
+pub mod Pairs
+pub mod Loaded
+pub mod Unions

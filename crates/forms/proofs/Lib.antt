@@ -1,0 +1,7 @@
+pub mod Packed
+pub mod Matching
+pub mod Pieces
+pub mod Making
+pub mod Unpacking
+pub mod Listing
+pub mod Fitting

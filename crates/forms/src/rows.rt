@@ -1,0 +1,85 @@
+// Rows that become a sparse record: judged, then written.
+ghost use mathlib.Core.Path.{_≡_};
+ghost use mathlib.Core.Bool.{true, _&&_};
+ghost use Prim.Native.Nat.{_*_, _≤_, _^_, _<_};
+ghost use lib.ListN.{length};
+ghost use lib.Signed.{nonNeg};
+ghost use Rattle.rules.specs.Lists.{all, allBelow};
+ghost use Rattle.rules.specs.Limits.{resultSize};
+ghost use Rattle.rules.specs.Layout.{encode, distinct, wellFormed};
+ghost use Rattle.rules.specs.Record.{rowsOf, naturals, shapeIn};
+ghost use Rattle.rules.specs.Refusals.{inForm};
+ghost use Rattle.rules.specs.Endings.{EndsIn};
+ghost use Rattle.rules.specs.CountsAndForms.{sparse};
+ghost use Rattle.tables.specs.Rows.{rowsAt, HasRows};
+ghost use Rattle.shapes.specs.Judged.{Judged};
+ghost use Rattle.forms.specs.Pieces.{sparseOf};
+use super::writing::write_record;
+use rules::{Refusal, Written};
+
+// Whether the n rows of w numbers are inside a shape.
+fn rows_inside(shape: &[i32], w: usize, n: usize, numbers: &[i32]) -> bool
+    requires { ⌜ Judged (now shape) ⌝ }
+    requires { ⌜ w ≡ length (shapeIn (now shape)) ⌝ }
+    requires { ⌜ n * w ≤ length (now numbers) ⌝ }
+    ensures { λ r. ⌜ r ≡ all (λ row. allBelow row (shapeIn (now (shape .entry)))) (rowsOf w n (naturals (now (numbers .entry)))) ⌝ }
+{
+    let mut i = 0;
+    while i < n {
+        let at = i * w;
+        let end = at + w;
+        if !lookups::inside(&numbers[at..end], shape) {
+            return false;
+        }
+        i += 1;
+    }
+    true
+}
+
+// Whether no two of n rows are the same; rows in order are told so in one walk.
+fn all_differ(w: usize, n: usize, numbers: &[i32]) -> bool
+    requires { ⌜ HasRows 0 w n (now numbers) ⌝ }
+    ensures { λ r. ⌜ r ≡ distinct (rowsAt 0 w n (now (numbers .entry))) ⌝ }
+{
+    if tables::is_increasing(numbers, 0, n, w) {
+        return true;
+    }
+    tables::distinct(numbers, 0, n, w)
+}
+
+// Whether the numbers are n rows of a sparse layout: natural, inside the shape and all different. Without axes all rows are the same.
+fn rows_fit(shape: &[i32], n: usize, numbers: &[i32]) -> bool
+    requires { ⌜ Judged (now shape) ⌝ }
+    requires { ⌜ length (now numbers) ≡ n * length (shapeIn (now shape)) ⌝ }
+    ensures { λ r. ⌜ r ≡ (all nonNeg (now (numbers .entry)) && wellFormed (sparseOf (shapeIn (now (shape .entry))) n (now (numbers .entry)))) ⌝ }
+{
+    let w = shapes::rank(shape);
+    if w == 0 {
+        return n <= 1;
+    }
+    if !records::all_natural(numbers, numbers.len()) {
+        return false;
+    }
+    if !rows_inside(shape, w, n, numbers) {
+        return false;
+    }
+    all_differ(w, n, numbers)
+}
+
+// The sparse record of a shape and n rows is written, if they fit and are not too many.
+pub fn sparse(shape: &[i32], n: usize, numbers: &[i32], result: &mut [i32]) -> Written
+    requires { ⌜ Judged (now shape) ⌝ }
+    requires { ⌜ length (now numbers) ≡ n * length (shapeIn (now shape)) ⌝ }
+    requires { ⌜ resultSize ≤ length (now result) ⌝ }
+    ensures { λ r. ⌜ EndsIn (inForm encode (sparse (shapeIn (now (shape .entry))) n (now (numbers .entry)))) (now (result .entry)) r (now (result .exit)) ⌝ }
+{
+    if !rows_fit(shape, n, numbers) {
+        return Written::Refused(Refusal::MadeUnsound);
+    }
+    if 128 < n {
+        return Written::Refused(Refusal::MadeTooLarge);
+    }
+    let none = [0i32; 2];
+    let end = 1 + shapes::rank(shape);
+    write_record(result, 2, 0, &shape[1..end], n, numbers, &none)
+}

@@ -1,0 +1,77 @@
+-- The ways out of a function that is lent a result. Assumes nothing.
+use mathlib.Core.Path.{_≡_, refl, sym, ap, _∙_}
+use mathlib.Core.Bool.{Bool, true, false, not}
+use mathlib.Core.List.{List}
+use Prim.Native.Nat.{ℕ, _*_, _<_, _≤_, _^_}
+use native.Mathlib.Nat.{mul-le-mul, le-of-lt, lt-of-le-of-lt}
+use native.Mathlib.Omega.{arith}
+use borrow.Author.Tests.{lt-ltb, le-ltb, ltb-false, eq-eqb, ne-eqb, not-false}
+use lib.Dec.{eqb, ltb, lit<}
+use lib.IntN.{ℤ}
+use lib.ListN.{length}
+use lib.Signed.{nonNeg}
+use mir.Syntax.{w64}
+use mir.Val.{Fits}
+use Rattle.rules.specs.declared.Refusal.{Refusal}
+use Rattle.rules.specs.declared.Written.{Written}
+use Rattle.rules.specs.declared.Written.the-variants.{Refused}
+use Rattle.rules.specs.Refusals.{Verdict, refused, inForm, numberOf}
+use Rattle.rules.specs.Record.{natural, shapeIn, goodShape}
+use Rattle.rules.specs.Arguments.{overRank, overShape, shortResult}
+use Rattle.rules.specs.Endings.{EndsIn, resultAfter}
+use Rattle.cells.specs.declared.Sign.{Sign}
+use Rattle.cells.specs.declared.Sign.the-variants.{Natural, Negative}
+use Rattle.cells.specs.View.{signOf, sizeOf}
+use Rattle.shapes.specs.Judged.{Judged}
+use Rattle.shapes.proofs.Reading.{as-natural, as-nothing, small-read}
+
+module _ {A : Type 0} (form : A → List ℤ) (v : Verdict A) where
+  -- a refusal leaves the result as it was
+  pub ends-refused : (why : Refusal) {old : List ℤ} → refused (numberOf why) ≡ v → EndsIn (inForm form v) old (Refused why) old
+  unfolding resultAfter
+  ends-refused why e = rw (← e) (record { answer = refl; result-is = refl })
+
+  -- a step that the call comes to ends it
+  pub ends-stepped : (w : Verdict A) {r : Written} {old new : List ℤ} → EndsIn (inForm form w) old r new → w ≡ v → EndsIn (inForm form v) old r new
+  ends-stepped w t e = rw e at t
+
+-- ---- what is judged
+
+module _ (n : ℕ) where
+  -- the result is too short
+  pub result-short : n < 1802 → shortResult n ≡ true
+  result-short h = lt-ltb n 1802 h
+
+  -- it is long enough
+  pub result-long : 1802 ≤ n → shortResult n ≡ false
+  result-long h = le-ltb n 1802 h
+
+-- a shape that is not refused
+pub judged-shape : (s : List ℤ) {o g : Bool} → o ≡ overShape s → o ≡ false → g ≡ goodShape s → not g ≡ false → Judged s
+judged-shape s {g = g} e f h k = record { small = sym e ∙ f; good = sym h ∙ not-false g k }
+
+module _ {g : Sign} (z : ℤ) (e : g ≡ signOf z) where
+  -- an asked rank by its sign
+  pub rank-natural : {n : ℕ} → g ≡ Natural n → ltb 4 n ≡ overRank z
+  rank-natural f = ap (ltb 4) (as-natural z e f)
+
+  pub rank-negative : g ≡ Negative → false ≡ overRank z
+  rank-negative f = ap (ltb 4) (as-nothing z e f)
+
+  -- one that is not over 4
+  pub rank-few : {n : ℕ} → g ≡ Natural n → overRank z ≡ false → n ≤ 4
+  rank-few f h = rw (as-natural z e f) (ltb-false 4 (natural z) h)
+
+-- numbers of so many rows
+module _ (s : List ℤ) (size : ℕ) (z : ℤ) {n w : ℕ} (e : n ≡ natural z) (f : w ≡ length (shapeIn s)) where
+  pub rows-numbered : size ≡ n * w → eqb size (natural z * length (shapeIn s)) ≡ true
+  rows-numbered h = rw (← e, ← f) (eq-eqb size (n * w) h)
+
+  pub rows-misnumbered : (size ≡ n * w → ⊥) → eqb size (natural z * length (shapeIn s)) ≡ false
+  rows-misnumbered h = rw (← e, ← f) (ne-eqb size (n * w) h)
+
+-- their count does not wrap
+pub rows-fit : {g : Sign} {n w : ℕ} → sizeOf g < 2 ^ 31 → g ≡ Natural n → w ≤ 4 → Fits w64 (n * w)
+rows-fit h e k = record { fits = lt-of-le-of-lt (mul-le-mul (le-of-lt (small-read h e)) k) (lit< tt) }
+
+pub ruleset results = (result-short, result-long)

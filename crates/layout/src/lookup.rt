@@ -1,0 +1,29 @@
+// Module 4, lookup: the place of an index.
+ghost use mathlib.Core.Path.{_≡_};
+ghost use Rattle.rules.specs.Endings.{placeSays};
+ghost use Rattle.rules.specs.Lookup.{findNnzIndexCall};
+use rules::Place;
+use rules::Refusal;
+use rules::Walk;
+
+// Where a record has an index.
+pub fn find_nnz_index(record: &[i32], index: &[i32]) -> Place
+    ensures { λ r. ⌜ placeSays r ≡ findNnzIndexCall (now («record» .entry)) (now (index .entry)) ⌝ }
+{
+    if records::over_record(record) {
+        return Place::Refused(Refusal::OverCount);
+    }
+    let Walk::To(head) = records::walk_record(record) else {
+        return Place::Refused(Refusal::Unsound);
+    };
+    if !records::sound(record) {
+        return Place::Refused(Refusal::Unsound);
+    }
+    if !records::ordered(record) {
+        return Place::Refused(Refusal::Unordered);
+    }
+    if !shapes::good_index(index, head.rank) {
+        return Place::Refused(Refusal::WrongArgument);
+    }
+    lookups::find(record, head, index)
+}
