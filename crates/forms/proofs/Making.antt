@@ -211,5 +211,7 @@ module _ (s : List ℤ) {rank : ℕ} (j : Judged s) (e : rank ≡ length (shapeI
         rw (formed-made (diagonal-formed n g)) (ends-same w (ap given (rw (lent-extents s j e) (bare-pieces 1 0 (shapeIn s)))))
 
 pub ruleset shapes = (extents-end, shape-room, rank-few)
+
 pub ruleset empties = (zeros-lent, zeros-room, empty-written)
+
 pub ruleset diagonals = (shapes, diagonal-none, diagonal-unlike, diagonal-written)

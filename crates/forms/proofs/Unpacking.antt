@@ -150,4 +150,5 @@ module _ {h : Head} {s : List ℤ} (r : SoundRecord h s) where
       ends-given (sym (ap length (sym numbers) ∙ rows-long)) (rw numbers at e)
 
 pub ruleset denses = (shape-ends, deps-start, deps-end, dense-room, dense-from)
+
 pub ruleset listed = (rows-start, rows-end, rows-room, rows-from)

@@ -15,7 +15,8 @@ ghost use Rattle.tables.specs.Rows.{rowsAt, HasRows};
 ghost use Rattle.shapes.specs.Judged.{Judged};
 ghost use Rattle.forms.specs.Pieces.{sparseOf};
 use super::writing::write_record;
-use rules::{Refusal, Written};
+use rules::Refusal;
+use rules::Written;
 
 // Whether the n rows of w numbers are inside a shape.
 fn rows_inside(shape: &[i32], w: usize, n: usize, numbers: &[i32]) -> bool

@@ -13,10 +13,20 @@ ghost use Rattle.rules.specs.CountsAndForms.{toDense, toDataLayout, dense, newE
 ghost use Rattle.shapes.specs.Judged.{Judged};
 ghost use Rattle.lookups.specs.Sound.{SoundRecord};
 ghost use Rattle.forms.specs.Pieces.{pieces, HasRoom, noDeps};
-use rules::{Head, Refusal, Written};
+use rules::Head;
+use rules::Refusal;
+use rules::Written;
 
 // Kind, dense axes, extents, the numbers of so many rows and both dependency sections are written; the answer is how many numbers.
-pub fn write_record(result: &mut [i32], kind: usize, dense: usize, extents: &[i32], count: usize, rows: &[i32], deps: &[i32]) -> Written
+pub fn write_record(
+    result: &mut [i32],
+    kind: usize,
+    dense: usize,
+    extents: &[i32],
+    count: usize,
+    rows: &[i32],
+    deps: &[i32],
+) -> Written
     requires { ⌜ HasRoom kind dense count (now extents) (now rows) (now deps) (now result) ⌝ }
     ensures { λ r. ⌜ EndsIn (given (pieces kind dense (now (extents .entry)) count (now (rows .entry)) (now (deps .entry)))) (now (result .entry)) r (now (result .exit)) ⌝ }
 {

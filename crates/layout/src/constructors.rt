@@ -6,8 +6,10 @@ ghost use Rattle.rules.specs.Arguments.{overRank};
 ghost use Rattle.rules.specs.Refusals.{inForm};
 ghost use Rattle.rules.specs.Endings.{EndsIn};
 ghost use Rattle.rules.specs.CountsAndForms.{toDenseCall, toDataLayoutCall, newEmptyCall, newScalarCall, denseCall, diagonalCall, sparseCall};
-use rules::{Refusal, Walk, Written};
 use cells::Sign;
+use rules::Refusal;
+use rules::Walk;
+use rules::Written;
 
 // The dense record of the same shape and dependencies.
 pub fn to_dense(record: &[i32], result: &mut [i32]) -> Written

@@ -3,7 +3,10 @@ ghost use mathlib.Core.Path.{_≡_};
 ghost use Rattle.rules.specs.Refusals.{given};
 ghost use Rattle.rules.specs.Endings.{numberSays, testSays};
 ghost use Rattle.rules.specs.CountsAndForms.{nnzCall, minRankCall, eqNonzerosCall, eqNonzerosAndDepsCall};
-use rules::{Number, Refusal, Test, Walk};
+use rules::Number;
+use rules::Refusal;
+use rules::Test;
+use rules::Walk;
 
 // How many positions a record stores.
 pub fn nnz(record: &[i32]) -> Number

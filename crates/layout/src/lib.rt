@@ -7,10 +7,24 @@ mod counts; // counts.rt: module 5, counts and equality
 mod constructors; // constructors.rt: module 5, forms and constructors
 mod uniting; // uniting.rt: module 8, union
 
-pub use broadcasting::{broadcast_shapes, can_broadcast_to};
-pub use positions::{ravel_index, unravel_index, cmp_index};
+pub use broadcasting::broadcast_shapes;
+pub use broadcasting::can_broadcast_to;
+pub use constructors::dense;
+pub use constructors::diagonal;
+pub use constructors::new_empty;
+pub use constructors::new_scalar;
+pub use constructors::sparse;
+pub use constructors::to_data_layout;
+pub use constructors::to_dense;
+pub use counts::eq_nonzeros;
+pub use counts::eq_nonzeros_and_deps;
+pub use counts::min_rank;
+pub use counts::nnz;
 pub use lookup::find_nnz_index;
-pub use counts::{nnz, min_rank, eq_nonzeros, eq_nonzeros_and_deps};
-pub use constructors::{to_dense, new_empty, new_scalar, dense, diagonal, sparse, to_data_layout};
-pub use records::{sound, ordered, row};
+pub use positions::cmp_index;
+pub use positions::ravel_index;
+pub use positions::unravel_index;
+pub use records::ordered;
+pub use records::row;
+pub use records::sound;
 pub use uniting::union;

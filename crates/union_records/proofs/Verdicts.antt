@@ -1,0 +1,144 @@
+-- What the answer to a list of two records says. Assumes nothing.
+use mathlib.Core.Path.{_≡_, refl, sym, ap, _∙_}
+use mathlib.Core.Bool.{Bool, true, false, not, _&&_, _||_}
+use mathlib.Core.List.{List, [], _∷_, _++_}
+use Prim.Native.Nat.{ℕ, _^_, _<_, _≤_}
+use native.Mathlib.Omega.{arith}
+use borrow.Author.Tests.{lt-ltb, le-ltb}
+use lib.IntN.{ℤ, pos}
+use lib.ListN.{length, take, drop, length-drop}
+use lib.Seq.{take-at, take-all}
+use lib.Signed.{mag}
+use Rattle.rules.specs.declared.Refusal.{Refusal}
+use Rattle.rules.specs.declared.Written.{Written}
+use Rattle.rules.specs.declared.Written.the-variants.{Numbers, Refused}
+use Rattle.rules.specs.Limits.{resultSize, workSize}
+use Rattle.rules.specs.Lists.{if, none}
+use Rattle.rules.specs.Buffers.{over}
+use Rattle.rules.specs.Refusals.{Verdict, given, refused, inForm, numberOf, _then_, _when_, lowest}
+use Rattle.rules.specs.Layout.{Layout, encode}
+use Rattle.rules.specs.Record.{layoutIn, sound, behindRecord}
+use Rattle.rules.specs.Arguments.{overRecord, shortResult, shortWork}
+use Rattle.rules.specs.Endings.{resultAfter, writtenSays, Ends}
+use Rattle.rules.specs.Union.{union, unionCall}
+use Rattle.rules.proofs.Soundness.{Sound}
+use Rattle.rules.proofs.Encoded.{encode-short, layout-alone, sound-alone}
+use Rattle.rules.proofs.Unions.{union-sound}
+use Rattle.cells.proofs.Signed.{held, back}
+use Rattle.text.specs.Read.{readText}
+use Rattle.text.specs.Written.{lineText}
+use Rattle.union_records.specs.Lines.{layoutText, refusedText, verdictText, unionOf, readingText, unionText}
+use Rattle.union_records.specs.Fronts.{Front}
+use Rattle.union_records.proofs.Behind.{restFrom, to-the-end}
+
+-- ---- a refusal
+
+-- its number is written as it is held in a slice
+pub refused-line : (x : Refusal) (z : ℤ) → z ≡ pos (numberOf x) → mag z < 2 ^ 31 →
+    114 ∷ 101 ∷ 102 ∷ 117 ∷ 115 ∷ 101 ∷ 100 ∷ 32 ∷ lineText (held z ∷ []) ≡ refusedText (numberOf x)
+unfolding refusedText
+refused-line x z e h = rw (back z h, e)
+
+-- ---- a text
+
+-- too much text is refused
+pub too-long : (text : List ℕ) → 65536 < length text → unionText text ≡ refusedText 3
+unfolding unionText
+too-long text h = rw (lt-ltb 65536 (length text) h)
+
+-- other text is read
+pub read-text : (text : List ℕ) → length text ≤ 65536 → unionText text ≡ readingText (readText text)
+unfolding unionText
+read-text text h = rw (le-ltb 65536 (length text) h)
+
+-- ---- leftovers
+
+none-empty : {A : Type 0} (l : List A) → length l ≡ 0 → none l ≡ true
+unfolding none
+none-empty [] e = refl
+none-empty (x ∷ l) e = absurd (omega arith)
+
+none-some : {A : Type 0} (l : List A) → 0 < length l → none l ≡ false
+unfolding none
+none-some [] h = absurd (omega arith)
+none-some (x ∷ l) h = refl
+
+-- the first record of a list ends at one place, the second at another
+module _ (list : List ℤ) (first second : ℕ) (p : drop first list ≡ behindRecord list) (q : drop second list ≡ behindRecord (drop first list)) where
+  -- what stands behind both
+  behind-both : behindRecord (behindRecord list) ≡ drop second list
+  behind-both = sym (q ∙ ap behindRecord p)
+
+  -- leftovers are refused
+  pub leftover : second < length list → unionOf list ≡ refused 3
+  unfolding unionOf
+  leftover h = rw (behind-both, none-some (drop second list) (rw length-drop (omega arith)))
+
+  -- without them the union is asked for
+  pub no-leftover : {a b : ℕ} → length list ≤ second → a ≡ resultSize → b ≡ workSize → unionCall list (restFrom list first) a b ≡ unionOf list
+  unfolding unionOf
+  no-leftover h k l =
+      rw (behind-both, none-empty (drop second list) (rw length-drop (omega arith)), k, l, to-the-end list first, p)
+
+-- ---- a union
+
+never : {A : Type 0} {n : ℕ} {x : A} → refused n ≡ given x → ⊥
+never e = let z : _≡_ {A = ℕ} 0 1 = cc in omega arith
+
+-- what a call gives is sound
+call-sound : (s t : List ℤ) (a b : ℕ) {l : Layout} → unionCall s t a b ≡ given l → Sound l
+unfolding unionCall lowest
+call-sound s t a b {l} e = go (overRecord s || overRecord t) (shortResult a || shortWork b) (not (sound s && sound t)) e
+  where
+    go : (x y z : Bool) → (lowest (1 when x ∷ 2 when y ∷ 3 when z ∷ []) then λ _. union (layoutIn s) (layoutIn t)) ≡ given l → Sound l
+    go true y z e = absurd (never e)
+    go false true z e = absurd (never e)
+    go false false true e = absurd (never e)
+    go false false false e = union-sound (layoutIn s) (layoutIn t) e
+
+-- the first n numbers are the record of the layout that a verdict gives
+pub record Holds (v : Verdict Layout) (numbers : List ℤ) (n : ℕ) : Type 0 where
+  pub layout : Layout
+  pub is : v ≡ given layout
+  pub front : take n numbers ≡ encode layout
+  pub sound : Sound layout
+  pub short : n ≤ resultSize
+
+module _ {v : Verdict Layout} {result work result′ work′ : List ℤ} {r : Written} (e : Ends (inForm encode v) result work r result′ work′) where
+  -- a refusal says why
+  refused-why : {x : Refusal} → r ≡ Refused x → v ≡ refused (numberOf x)
+  refused-why {x} f = go v (sym (ap writtenSays f) ∙ e .answer)
+    where
+      go : (v : Verdict Layout) → refused (numberOf x) ≡ inForm length (inForm encode v) → v ≡ refused (numberOf x)
+      go (given l) p = cc
+      go (refused n) p = cc
+
+  -- numbers that were written are the record of a layout
+  record-held : ((l : Layout) → v ≡ given l → Sound l) → {n : ℕ} → r ≡ Numbers n → Holds v result′ n
+  unfolding resultAfter over
+  record-held sound {n} f = go v refl (sym (ap writtenSays f) ∙ e .answer) (e .result-is)
+    where
+      go : (u : Verdict Layout) → v ≡ u → given n ≡ inForm length (inForm encode u) → result′ ≡ resultAfter (inForm encode u) result → Holds v result′ n
+      go (given l) p q k =
+          let size : length (encode l) ≡ n = cc in
+          let short = encode-short (sound l p) in
+          record { layout = l; is = p; front = rw k (take-at (encode l) (drop (length (encode l)) result) n size); sound = sound l p; short = omega arith }
+      go (refused m) p q k = absurd (never (sym q))
+
+module _ (s t : List ℤ) (a b : ℕ) {result work result′ work′ : List ℤ} {r : Written} (e : Ends (inForm encode (unionCall s t a b)) result work r result′ work′) where
+  -- the numbers that a union wrote
+  pub union-held : {n : ℕ} → r ≡ Numbers n → Holds (unionCall s t a b) result′ n
+  union-held f = record-held {v = unionCall s t a b} e (λ l. call-sound s t a b) f
+
+  -- why a union was refused
+  pub union-why : {x : Refusal} → r ≡ Refused x → refusedText (numberOf x) ≡ verdictText (unionCall s t a b)
+  union-why f = sym (ap verdictText (refused-why {v = unionCall s t a b} e f))
+
+module _ {v : Verdict Layout} {numbers : List ℤ} {n : ℕ} (h : Holds v numbers n) where
+  -- they are a sound record
+  pub held-sound : Rattle.rules.specs.Record.sound (take n numbers) ≡ true
+  held-sound = rw (h .front) (sound-alone (h .sound))
+
+  -- and that of the layout that is given
+  pub held-text : layoutText (layoutIn (take n numbers)) ≡ verdictText v
+  held-text = rw (h .front, layout-alone (h .sound), h .is)
