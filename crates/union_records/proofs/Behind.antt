@@ -1,6 +1,6 @@
 -- Where a record of a list ends, and what stands behind it. Assumes nothing.
 use mathlib.Core.Path.{_≡_, sym, _∙_}
-use mathlib.Core.List.{List, []}
+use mathlib.Core.List.{List}
 use Prim.Native.Nat.{ℕ, _+_, _-_, _≤_}
 use native.Mathlib.Omega.{arith}
 use lib.IntN.{ℤ}
@@ -22,6 +22,7 @@ to-the-end list at = take-all (length list - at) (drop at list) (rw length-drop 
 
 -- the record that begins at a place was walked, or could not be
 module _ (list : List ℤ) (at : ℕ) {w : Walk} (inside : at ≤ length list) (is : w ≡ walk (restFrom list at)) where
+  -- the walk of the rest
   walk-is : walk (drop at list) ≡ w
   walk-is = sym (rw to-the-end at is)
 

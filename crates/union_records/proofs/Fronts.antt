@@ -1,11 +1,11 @@
 -- A text at the front of a slice grows with what is written right behind it. Assumes nothing.
 use mathlib.Core.Path.{_≡_, refl, sym, ap, _∙_}
-use mathlib.Core.List.{List, [], _∷_, _++_, append-assoc}
-use Prim.Native.Nat.{ℕ, suc, _+_, _<_, _≤_}
+use mathlib.Core.List.{List, [], _++_, append-assoc}
+use Prim.Native.Nat.{ℕ, _+_, _<_, _≤_}
 use native.Mathlib.Numerals.{add-one}
 use native.Mathlib.Omega.{arith}
-use lib.ListN.{length, getD, take, drop, set, length-append, length-take, length-drop, length-set}
-use lib.Seq.{take-append-le, take-at, take-suc, take-suc-set, take-length, length-take-le, take-add}
+use lib.ListN.{length, getD, take, drop, set, length-append, length-set}
+use lib.Seq.{take-at, take-suc, take-suc-set, take-length, length-take-le}
 use Rattle.io.specs.Counts.{Counts}
 use Rattle.text.specs.Placed.{putBytes, Wrote}
 use Rattle.union_records.specs.Fronts.{Front}
@@ -46,9 +46,9 @@ pub record Copied (bytes old now : List ℕ) (i : ℕ) : Type 0 where
   pub size : length now ≡ length old
   pub front : Front (take i bytes) now i
 
-module _ {bytes old : List ℕ} (h : length bytes ≤ length old) where
-  pub copied-none : Copied bytes old old 0
-  copied-none = record { few = omega arith; room = h; size = refl; front = front-none old }
+-- none yet
+pub copied-none : {bytes old : List ℕ} → length bytes ≤ length old → Copied bytes old old 0
+copied-none {bytes} {old} h = record { few = omega arith; room = h; size = refl; front = front-none old }
 
 module _ {bytes old now : List ℕ} {i : ℕ} (p : Copied bytes old now i) where
   -- one more

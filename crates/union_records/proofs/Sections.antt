@@ -1,7 +1,7 @@
 -- The lines of a record by the places of its sections: what was written, and what a sound record has there. Assumes nothing.
-use mathlib.Core.Path.{_≡_, refl, sym, ap, _∙_}
+use mathlib.Core.Path.{_≡_, sym, ap, _∙_}
 use mathlib.Core.Bool.{true}
-use mathlib.Core.List.{List, [], _∷_, _++_}
+use mathlib.Core.List.{List}
 use Prim.Native.Nat.{ℕ, _+_, _-_, _*_, _≤_}
 use native.Mathlib.Omega.{arith}
 use lib.IntN.{ℤ}
@@ -11,7 +11,7 @@ use Rattle.rules.specs.declared.Walk.{Walk}
 use Rattle.rules.specs.declared.Walk.the-variants.{To, Broken}
 use Rattle.rules.specs.Limits.{resultSize}
 use Rattle.rules.specs.Buffers.{part}
-use Rattle.rules.specs.Layout.{Layout, rank, section, encode}
+use Rattle.rules.specs.Layout.{Layout, rank, encode}
 use Rattle.rules.specs.Record.{walk, layoutIn, sound, behindRecord}
 use Rattle.rules.proofs.Encoded.{headOf, encode-length, encode-short, kind-part-in, shape-part-in, rows-part-in, states-part-in, inputs-part-in}
 use Rattle.rules.proofs.ReadBack.{layout-sound, record-and-rest, walk-sound}

@@ -1,19 +1,19 @@
--- What the answer to a list of two records says. Assumes nothing.
+-- What a text, a list of two records and a union are answered with. Assumes nothing.
 use mathlib.Core.Path.{_≡_, refl, sym, ap, _∙_}
 use mathlib.Core.Bool.{Bool, true, false, not, _&&_, _||_}
-use mathlib.Core.List.{List, [], _∷_, _++_}
+use mathlib.Core.List.{List, [], _∷_}
 use Prim.Native.Nat.{ℕ, _^_, _<_, _≤_}
 use native.Mathlib.Omega.{arith}
 use borrow.Author.Tests.{lt-ltb, le-ltb}
 use lib.IntN.{ℤ, pos}
 use lib.ListN.{length, take, drop, length-drop}
-use lib.Seq.{take-at, take-all}
+use lib.Seq.{take-at}
 use lib.Signed.{mag}
 use Rattle.rules.specs.declared.Refusal.{Refusal}
 use Rattle.rules.specs.declared.Written.{Written}
 use Rattle.rules.specs.declared.Written.the-variants.{Numbers, Refused}
 use Rattle.rules.specs.Limits.{resultSize, workSize}
-use Rattle.rules.specs.Lists.{if, none}
+use Rattle.rules.specs.Lists.{none}
 use Rattle.rules.specs.Buffers.{over}
 use Rattle.rules.specs.Refusals.{Verdict, given, refused, inForm, numberOf, _then_, _when_, lowest}
 use Rattle.rules.specs.Layout.{Layout, encode}
@@ -28,7 +28,6 @@ use Rattle.cells.proofs.Signed.{held, back}
 use Rattle.text.specs.Read.{readText}
 use Rattle.text.specs.Written.{lineText}
 use Rattle.union_records.specs.Lines.{layoutText, refusedText, verdictText, unionOf, readingText, unionText}
-use Rattle.union_records.specs.Fronts.{Front}
 use Rattle.union_records.proofs.Behind.{restFrom, to-the-end}
 
 -- ---- a refusal
@@ -53,11 +52,13 @@ read-text text h = rw (le-ltb 65536 (length text) h)
 
 -- ---- leftovers
 
+-- a list of no elements has none
 none-empty : {A : Type 0} (l : List A) → length l ≡ 0 → none l ≡ true
 unfolding none
 none-empty [] e = refl
 none-empty (x ∷ l) e = absurd (omega arith)
 
+-- any other has some
 none-some : {A : Type 0} (l : List A) → 0 < length l → none l ≡ false
 unfolding none
 none-some [] h = absurd (omega arith)
@@ -82,6 +83,7 @@ module _ (list : List ℤ) (first second : ℕ) (p : drop first list ≡ behindR
 
 -- ---- a union
 
+-- no refusal is an answer
 never : {A : Type 0} {n : ℕ} {x : A} → refused n ≡ given x → ⊥
 never e = let z : _≡_ {A = ℕ} 0 1 = cc in omega arith
 
@@ -101,7 +103,7 @@ pub record Holds (v : Verdict Layout) (numbers : List ℤ) (n : ℕ) : Type 0 wh
   pub layout : Layout
   pub is : v ≡ given layout
   pub front : take n numbers ≡ encode layout
-  pub sound : Sound layout
+  pub is-sound : Sound layout
   pub short : n ≤ resultSize
 
 module _ {v : Verdict Layout} {result work result′ work′ : List ℤ} {r : Written} (e : Ends (inForm encode v) result work r result′ work′) where
@@ -116,13 +118,13 @@ module _ {v : Verdict Layout} {result work result′ work′ : List ℤ} {r : Wr
   -- numbers that were written are the record of a layout
   record-held : ((l : Layout) → v ≡ given l → Sound l) → {n : ℕ} → r ≡ Numbers n → Holds v result′ n
   unfolding resultAfter over
-  record-held sound {n} f = go v refl (sym (ap writtenSays f) ∙ e .answer) (e .result-is)
+  record-held all-sound {n} f = go v refl (sym (ap writtenSays f) ∙ e .answer) (e .result-is)
     where
       go : (u : Verdict Layout) → v ≡ u → given n ≡ inForm length (inForm encode u) → result′ ≡ resultAfter (inForm encode u) result → Holds v result′ n
       go (given l) p q k =
           let size : length (encode l) ≡ n = cc in
-          let short = encode-short (sound l p) in
-          record { layout = l; is = p; front = rw k (take-at (encode l) (drop (length (encode l)) result) n size); sound = sound l p; short = omega arith }
+          let short = encode-short (all-sound l p) in
+          record { layout = l; is = p; front = rw k (take-at (encode l) (drop (length (encode l)) result) n size); is-sound = all-sound l p; short = omega arith }
       go (refused m) p q k = absurd (never (sym q))
 
 module _ (s t : List ℤ) (a b : ℕ) {result work result′ work′ : List ℤ} {r : Written} (e : Ends (inForm encode (unionCall s t a b)) result work r result′ work′) where
@@ -136,9 +138,9 @@ module _ (s t : List ℤ) (a b : ℕ) {result work result′ work′ : List ℤ}
 
 module _ {v : Verdict Layout} {numbers : List ℤ} {n : ℕ} (h : Holds v numbers n) where
   -- they are a sound record
-  pub held-sound : Rattle.rules.specs.Record.sound (take n numbers) ≡ true
-  held-sound = rw (h .front) (sound-alone (h .sound))
+  pub held-sound : sound (take n numbers) ≡ true
+  held-sound = rw (h .front) (sound-alone (h .is-sound))
 
   -- and that of the layout that is given
   pub held-text : layoutText (layoutIn (take n numbers)) ≡ verdictText v
-  held-text = rw (h .front, layout-alone (h .sound), h .is)
+  held-text = rw (h .front, layout-alone (h .is-sound), h .is)

@@ -82,7 +82,7 @@ fn record_end(list: &[i32], at: usize) -> usize
     }
 }
 
-// The five lines of a sound record go to the front of out; answers how many bytes they have.
+// The five lines of a sound record, which can always be walked, go to the front of out; answers how many bytes they have.
 fn write_layout(s: &[i32], out: &mut [u8]) -> usize
     requires { ⌜ (sound (now s) ≡ true) × (32768 ≤ length (now out)) ⌝ }
     ensures { λ r. ⌜ Front (layoutText (layoutIn (now (s .entry)))) (now (out .exit)) r ⌝ }
