@@ -1,9 +1,6 @@
 // Answers request lines. A line of numbers on standard input asks for one call, and one line on standard output says how it ended.
-mod buffers; // buffers.rt: the pattern in the lent buffers
 mod made; // made.rt: operations that are lent a result buffer
 mod plain; // plain.rt: operations that are lent no buffer
-mod request; // request.rt: the arguments in a line's numbers
-mod say; // say.rt: the text of an answer
 mod worked; // worked.rt: operations that are lent a working buffer too
 
 ghost use mathlib.Core.Path.{_≡_};
@@ -121,7 +118,7 @@ fn respond(
     out: &mut [u8],
 ) {
     let end = answer_held(held, line, numbers, result, work, out);
-    let n = say::word(b"\n", out, end);
+    let n = replies::word(b"\n", out, end);
     write(out, n);
 }
 
@@ -142,23 +139,23 @@ fn answer_held(
     out: &mut [u8],
 ) -> usize {
     if line.len() < held {
-        return say::word(b"long", out, 0);
+        return replies::word(b"long", out, 0);
     }
     if numbers.len() < held - held / 2 {
-        return say::word(b"long", out, 0);
+        return replies::word(b"long", out, 0);
     }
     match text::read_numbers(&line[0..held], numbers) {
-        Read::Numbers(n) => answer(request::first(n, numbers), result, work, out),
-        Read::Other => say::word(b"bad request", out, 0),
+        Read::Numbers(n) => answer(requests::first(n, numbers), result, work, out),
+        Read::Other => replies::word(b"bad request", out, 0),
     }
 }
 
 // The answer to a request, by the buffers that its operation is lent, if the operation's arguments are there and nothing else is.
 fn answer(request: &[i32], result: &mut [i32], work: &mut [i32], out: &mut [u8]) -> usize {
-    let operation = request::number(request, 0);
-    let at = request::places(request, request::form(operation));
+    let operation = requests::number(request, 0);
+    let at = requests::places(request, requests::form(operation));
     if at[6] != request.len() {
-        return say::word(b"bad request", out, 0);
+        return replies::word(b"bad request", out, 0);
     }
     match operation {
         12..=18 => made::lend(request, at, result, out),

@@ -1,10 +1,6 @@
 // Operations that are lent a result buffer and a working buffer. The last two numbers of a request are their lengths.
-use crate::buffers::fill;
-use crate::buffers::left_well;
-use crate::request::length;
-use crate::request::list;
-use crate::request::number;
-use crate::say;
+use requests::list;
+use requests::number;
 use rules::Written;
 
 // The answer to a request, which is lent as much of the buffers as it asks for.
@@ -15,8 +11,8 @@ pub fn lend(
     work: &mut [i32],
     out: &mut [u8],
 ) -> usize {
-    let n = length(request, 2, result.len());
-    let m = length(request, 1, work.len());
+    let n = requests::length(request, 2, result.len());
+    let m = requests::length(request, 1, work.len());
     answer(request, at, &mut result[0..n], &mut work[0..m], out)
 }
 
@@ -28,27 +24,23 @@ fn answer(
     work: &mut [i32],
     out: &mut [u8],
 ) -> usize {
-    fill(result);
-    fill(work);
+    let first = list(request, at[0]);
+    let second = list(request, at[1]);
+    requests::fill(result);
+    requests::fill(work);
     match number(request, 0) {
-        22 => union(request, at, result, work, out),
-        _ => say::word(b"unknown", out, 0),
+        22 => ended(
+            layout::union(first, second, result, work),
+            result,
+            work,
+            out,
+        ),
+        _ => replies::word(b"unknown", out, 0),
     }
 }
 
 // What a call wrote, and whether it left the buffers well.
 fn ended(written: Written, result: &[i32], work: &[i32], out: &mut [u8]) -> usize {
-    let at = say::record(written, result, out);
-    say::unless(left_well(written, work), out, at)
-}
-
-fn union(
-    request: &[i32],
-    at: [usize; 7],
-    result: &mut [i32],
-    work: &mut [i32],
-    out: &mut [u8],
-) -> usize {
-    let written = layout::union(list(request, at[0]), list(request, at[1]), result, work);
-    ended(written, result, work, out)
+    let at = replies::record(written, result, out);
+    replies::unless(requests::left_well(written, work), out, at)
 }

@@ -9,7 +9,7 @@ use borrow.Author.Tests.{leb-true, leb-false, lt-leb}
 use lib.IntN.{ℤ}
 use lib.ListN.{length}
 use Rattle.rules.specs.RowsInOrder.{sorted, merge}
-use Rattle.rules.specs.Layout.{rank, few}
+use Rattle.rules.specs.Layout.{few}
 use Rattle.rules.specs.Removal.{lowered, lowerD}
 use Rattle.rules.proofs.Same.{true-not-false, same-true}
 use Rattle.rules.proofs.Merging.{sorted-left, sorted-right, merge-length-left, merge-length-right}
@@ -20,7 +20,7 @@ use Rattle.tables.proofs.Tables.{table-length}
 use Rattle.parts.specs.Parts.{denseAt, rankAt, layoutAt}
 use Rattle.parts.proofs.Holds.{rank-most, rank-is, dense-most}
 use Rattle.lowering.specs.Lowering.{LowerAsked, Listed}
-use Rattle.combine.specs.Uniting.{Room, CompleteAsked, RowsAsked, JoinAsked, joinedRows, RowsJoined, completed, Completed, unitedRows, Made}
+use Rattle.combine.specs.Uniting.{Room, CompleteAsked, RowsAsked, JoinAsked, joinedRows, RowsJoined, Completed, unitedRows, Made}
 use Rattle.combine.proofs.Ways.{way-told, Free, both-free}
 use Rattle.combine.proofs.Rooms.{less-room, first-same, second-same, first-rank, second-rank, room-still}
 

@@ -8,9 +8,9 @@ use Rattle.rules.specs.Lists.{if, same}
 use Rattle.rules.specs.Refusals.{refused}
 use Rattle.rules.specs.Layout.{Layout, isDense, isDiagonal}
 use Rattle.rules.specs.CountsAndForms.{toDense}
-use Rattle.rules.specs.Removal.{lowered, lowerD, listsRow, barsExpansion}
+use Rattle.rules.specs.Removal.{lowerD, listsRow, barsExpansion}
 use Rattle.rules.specs.Union.{withMerged, alikeDiagonals, union}
-use Rattle.rules.proofs.Same.{both-true, true-not-false}
+use Rattle.rules.proofs.Same.{both-true, neither}
 use Rattle.rules.proofs.Soundness.{Sound}
 use Rattle.rules.proofs.Made.{fewOr}
 use Rattle.rules.proofs.Unions.{union-dense, union-diagonals, union-bars, union-lists, union-rows}
@@ -122,11 +122,6 @@ pub record Free (l : Layout) (d : ℕ) : Type 0 where
   pub not-dense : l .kind ≡ 0 → ⊥
   pub expands : barsExpansion l ≡ false
   pub lists-none : listsRow l d ≡ false
-
--- where neither of two tests holds, each one fails
-neither : (x y : Bool) → x || y ≡ false → (x ≡ false) × (y ≡ false)
-neither true y e = absurd (true-not-false refl e)
-neither false y e = (refl, e)
 
 pub both-free : {a b : Layout} → Told a b Rows → Free a (lowerD a b) × Free b (lowerD a b)
 both-free {a} {b} (told-rows f g h i) =

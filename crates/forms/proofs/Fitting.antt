@@ -1,12 +1,12 @@
 -- `rows_fit` and `sparse`: rows that become a sparse record. Assumes nothing.
 use mathlib.Core.Path.{_≡_, refl, sym, ap, _∙_}
 use mathlib.Core.Bool.{Bool, true, false, not, _&&_}
-use mathlib.Core.List.{List, [], _∷_, _++_, map}
-use Prim.Native.Nat.{ℕ, zero, suc, min, _+_, _-_, _*_, _<_, _≤_, _^_}
+use mathlib.Core.List.{List, [], _∷_, map}
+use Prim.Native.Nat.{ℕ, zero, suc, min, _+_, _-_, _*_, _<_, _≤_}
 use native.Mathlib.Nat.{mul-zero, mul-le-mul}
 use native.Mathlib.Omega.{arith}
 use borrow.Author.Tests.{leb-true, leb-false, le-leb, lt-leb, eqb-true, eq-eqb, not-true, not-false}
-use lib.Dec.{eqb, leb}
+use lib.Dec.{leb}
 use lib.IntN.{ℤ, pos}
 use lib.ListN.{length, getD, take, drop, replicate, length-replicate, length-map, getD-replicate}
 use lib.Seq.{take-all, take-length}
@@ -15,38 +15,34 @@ use Rattle.rules.specs.declared.Refusal.the-variants.{MadeUnsound, MadeTooLarge
 use Rattle.rules.specs.declared.Written.{Written}
 use Rattle.rules.specs.declared.Written.the-variants.{Refused}
 use Rattle.rules.specs.Limits.{productLimit}
-use Rattle.rules.specs.Lists.{if, all, none, gather, same, allBelow}
+use Rattle.rules.specs.Lists.{if, all, none, gather, allBelow}
 use Rattle.rules.specs.RowsInOrder.{cmpRows, insert, sorted, increasing}
-use Rattle.rules.specs.Layout.{Layout, encode, distinct, few, alike, wellFormed, withinProduct, made}
+use Rattle.rules.specs.Layout.{Layout, encode, distinct, few, alike, wellFormed, withinProduct}
 use Rattle.rules.specs.Record.{natural, naturals, rowsOf, entriesOf, shapeIn}
-use Rattle.rules.specs.Refusals.{Verdict, given, refused, inForm, numberOf, lowest}
+use Rattle.rules.specs.Refusals.{given, refused, inForm, numberOf, lowest}
 use Rattle.rules.specs.Endings.{EndsIn}
 use Rattle.rules.specs.CountsAndForms.{sparse}
 use Rattle.rules.proofs.Extents.{nonzeroProduct}
 use Rattle.rules.proofs.Made.{Formed, formed-made}
-use Rattle.rules.proofs.Same.{both-true, true-not-false}
+use Rattle.rules.proofs.RowsRead.{pos-naturals, rows-length, gather-rows}
+use Rattle.rules.proofs.Same.{both-true, decided, true-not-false}
 use Rattle.rules.proofs.Sets.{each-nil}
 use Rattle.rules.proofs.Soundness.{WellFormed, well-formed-true, true-well-formed}
 use Rattle.rules.proofs.Tests.{all-each, each-all}
 use Rattle.cells.specs.View.{view, Low}
-use Rattle.cells.proofs.View.{view-length}
 use Rattle.tables.specs.Rows.{rowsAt, HasRows}
 use Rattle.tables.proofs.Different.{twice-length}
-use Rattle.records.proofs.Low.{has-rows, naturals-view, entries-rows}
+use Rattle.records.proofs.Low.{has-rows, entries-rows}
 use Rattle.shapes.specs.Judged.{Judged}
 use Rattle.shapes.proofs.Reading.{length-naturals}
 use Rattle.lookups.proofs.SoundRecords.{shape-within}
 use Rattle.forms.specs.Pieces.{pieces, HasRoom, noDeps, sparseOf}
-use Rattle.forms.proofs.Packed.{flat, rows-flat}
+use Rattle.forms.specs.Windows.{RowsInside}
+use Rattle.forms.proofs.Packed.{flat}
 use Rattle.forms.proofs.Pieces.{encode-pieces, ends-same}
-use Rattle.forms.proofs.Making.{pos-naturals, Extents, extents, lent-extents, made-refused, ends-refused, no-deps-fit}
-use Rattle.forms.proofs.Listing.{below, rows-length, rows-wide}
-
--- a test that another one decides
-decided : (s t : Bool) → (s ≡ true → t ≡ true) → (t ≡ true → s ≡ true) → s ≡ t
-decided true t f g = sym (f refl)
-decided false true f g = g refl
-decided false false f g = refl
+use Rattle.forms.proofs.Making.{extents, lent-extents, made-refused, ends-refused, no-deps-fit}
+use Rattle.forms.proofs.Listing.{below, rows-wide}
+use Rattle.forms.proofs.Numbering.{rows-seen}
 
 -- a list that has no length is empty
 no-length : {A : Type 0} (l : List A) → length l ≡ 0 → l ≡ []
@@ -121,14 +117,14 @@ module _ (s : List ℤ) {w : ℕ} (n : ℕ) (numbers : List ℤ) (size : length 
               absurd (true-not-false (each-all (below s) (rowsOf w n (naturals numbers)) inside) (sym d ∙ not-true u k))
           by false q = refl
 
-      module _ (j : Judged s) (low : t ≡ true → Low (take (length numbers) (view numbers))) where
-        -- none of the numbers is negative
-        seen : naturals numbers ≡ view numbers
-        seen = naturals-view numbers (rw (take-all (length numbers) (view numbers) (rw view-length (omega arith))) at (low (not-false t g)))
+      module _ (j : Judged s) (k : not u ≡ false) where
+        -- all are inside
+        pub rows-within : RowsInside s w n numbers
+        rows-within = record { judged = j; wide = e; room = rows-long; natural = sym natural-told ∙ not-false t g; inside = sym d ∙ not-false u k }
 
         -- what the layout asks of them besides
-        formed : not u ≡ false → distinct (rowsOf w n (naturals numbers)) ≡ true → WellFormed (sparseOf (shapeIn s) n numbers)
-        formed k q =
+        formed : distinct (rowsOf w n (naturals numbers)) ≡ true → WellFormed (sparseOf (shapeIn s) n numbers)
+        formed q =
             let rows = entries-are z (naturals numbers) in
             let few = extents s j e .few in
             let long : n * w ≤ length (naturals numbers) = rw (length-naturals, size, e) (omega arith) in
@@ -149,17 +145,16 @@ module _ (s : List ℤ) {w : ℕ} (n : ℕ) (numbers : List ℤ) (size : length 
             }
 
         -- whether they differ decides
-        pub rows-decide : {v : Bool} → not u ≡ false → v ≡ distinct (rowsAt 0 w n numbers) → v ≡ all nonNeg numbers && wellFormed (sparseOf (shapeIn s) n numbers)
-        unfolding rowsAt
-        rows-decide {v} k q =
+        pub rows-decide : {v : Bool} → v ≡ distinct (rowsAt 0 w n numbers) → v ≡ all nonNeg numbers && wellFormed (sparseOf (shapeIn s) n numbers)
+        rows-decide {v} q =
             let rows = entries-are z (naturals numbers) in
-            let told : v ≡ distinct (rowsOf w n (naturals numbers)) = q ∙ rw seen in
+            let told : v ≡ distinct (rowsOf w n (naturals numbers)) = q ∙ ap distinct (rows-seen rows-within) in
             rw (← natural-told, not-false t g)
             (decided v (wellFormed (sparseOf (shapeIn s) n numbers))
-            (λ y. true-well-formed (formed k (sym told ∙ y)))
+            (λ y. true-well-formed (formed (sym told ∙ y)))
             (λ y. told ∙ eq-eqb _ _ (rw rows at (well-formed-true y .rows-distinct))))
 
-pub ruleset fits = (rows-without-axes, rows-long, rows-negative, rows-outside, rows-decide)
+pub ruleset fits = (rows-without-axes, rows-long, rows-negative, rows-outside, rows-within, rows-decide)
 
 -- ---- the record: `sparse`
 
@@ -232,7 +227,7 @@ module _ (s : List ℤ) (n : ℕ) (numbers : List ℤ) {t : Bool} (e : t ≡ all
           let rows : entriesOf w n l ≡ rowsOf w n l = entries-rows w n l h in
           let all : take (n * w) l ≡ l = take-all (n * w) l (rw (length-naturals numbers) (omega arith)) in
           let count : length (entriesOf w n l) ≡ n = ap length rows ∙ rows-length w n l in
-          let listed : map pos (flat (entriesOf w n l)) ≡ numbers = rw (rows, rows-flat w n l, all) (sym (pos-naturals numbers (both .0))) in
+          let listed : map pos (flat (entriesOf w n l)) ≡ numbers = rw (rows, gather-rows w n l, all) (pos-naturals numbers (both .0)) in
           rw (lent-extents s j c) (sym (encode-pieces (sparseOf (shapeIn s) n numbers) ∙ rw (count, listed)))
 
       pub sparse-written : {old new : List ℤ} {r : Written} → EndsIn (given (pieces 2 0 (take (1 + rank - 1) (drop 1 s)) n numbers noDeps)) old r new →

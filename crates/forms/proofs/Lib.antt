@@ -4,4 +4,6 @@ pub mod Pieces
 pub mod Making
 pub mod Unpacking
 pub mod Listing
+pub mod Marking
+pub mod Numbering
 pub mod Fitting

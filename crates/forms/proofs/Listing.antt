@@ -1,43 +1,23 @@
--- `rows_inside` and `all_differ`: rows that are listed in a slice, put to a test. Assumes nothing.
-use mathlib.Core.Path.{_≡_, refl, sym, ap, _∙_}
+-- `rows_inside`: rows that are listed in a slice, put to a test. Assumes nothing.
+use mathlib.Core.Path.{_≡_, sym, ap, _∙_}
 use mathlib.Core.Bool.{Bool, true, false, not}
-use mathlib.Core.List.{List, [], _∷_}
+use mathlib.Core.List.{List, []}
 use Prim.Native.Nat.{ℕ, zero, suc, _+_, _-_, _*_, _<_, _≤_}
-use native.Mathlib.Nat.{zero-mul, suc-mul}
+use native.Mathlib.Nat.{suc-mul}
 use native.Mathlib.Omega.{arith}
-use borrow.Author.Tests.{eq-eqb, not-true, not-false}
+use borrow.Author.Tests.{not-true, not-false}
 use lib.IntN.{ℤ}
 use lib.ListN.{length, getD, take, drop, length-take, length-drop}
-use lib.Seq.{drop-drop, length-take-le}
-use mir.Syntax.{w64}
-use mir.Val.{Fits}
+use lib.Seq.{length-take-le}
 use Rattle.rules.specs.Lists.{all, allBelow}
 use Rattle.rules.specs.Buffers.{part}
-use Rattle.rules.specs.RowsInOrder.{increasing}
-use Rattle.rules.specs.Layout.{distinct}
-use Rattle.rules.specs.Record.{natural, naturals, rowsOf, shapeIn}
-use Rattle.rules.proofs.Sets.{Each, each-nil, each-cons, increasing-true}
-use Rattle.rules.proofs.Soundness.{increasing-distinct}
-use Rattle.tables.specs.Rows.{rowsAt}
+use Rattle.rules.specs.Record.{naturals, rowsOf, shapeIn}
+use Rattle.rules.proofs.Sets.{Each, each-nil, each-cons}
+use Rattle.rules.proofs.RowsRead.{naturals-take, naturals-drop, rows-length, rows-row}
 use Rattle.tables.proofs.Rows.{row-ends, lent-row}
 use Rattle.records.proofs.Passing.{Passed, none-passed, one-more, one-fails, all-passed}
 
 -- ---- rows of a list
-
--- there are as many as asked for
-pub rows-length : (w n : ℕ) (l : List ℕ) → length (rowsOf w n l) ≡ n
-unfolding rowsOf
-rows-length w zero l = refl
-rows-length w (suc n) l = ap suc (rows-length w n (drop w l))
-
--- row i is a part
-rows-at : (w n i : ℕ) (l : List ℕ) → i < n → getD (rowsOf w n l) i [] ≡ part (i * w) w l
-unfolding rowsOf part
-rows-at w zero i l h = absurd (omega arith)
-rows-at w (suc n) zero l h = rw zero-mul
-rows-at w (suc n) (suc i) l h =
-    let next : w + i * w ≡ suc i * w = omega (arith, suc-mul i w) in
-    rows-at w n i (drop w l) (omega arith) ∙ rw (drop-drop (i * w) w l, next)
 
 -- where the list is long enough, each has w numbers
 pub rows-wide : (w n : ℕ) (l : List ℕ) → n * w ≤ length l → Each (λ r. length r ≡ w) (rowsOf w n l)
@@ -50,20 +30,10 @@ rows-wide w (suc n) l h =
 
 -- ---- a part that is lent
 
-naturals-front : (n : ℕ) (l : List ℤ) → naturals (take n l) ≡ take n (naturals l)
-naturals-front zero l = refl
-naturals-front (suc n) [] = refl
-naturals-front (suc n) (z ∷ l) = ap (λ (t : List ℕ). natural z ∷ t) (naturals-front n l)
-
-naturals-end : (n : ℕ) (l : List ℤ) → naturals (drop n l) ≡ drop n (naturals l)
-naturals-end zero l = refl
-naturals-end (suc n) [] = refl
-naturals-end (suc n) (z ∷ l) = naturals-end n l
-
 -- is a part of the naturals
-lent-naturals : (a w : ℕ) (l : List ℤ) → naturals (take (a + w - a) (drop a l)) ≡ part a w (naturals l)
+pub lent-naturals : (a w : ℕ) (l : List ℤ) → naturals (take (a + w - a) (drop a l)) ≡ part a w (naturals l)
 unfolding part
-lent-naturals a w l = ap naturals (lent-row a w l) ∙ naturals-front w (drop a l) ∙ ap (take w) (naturals-end a l)
+lent-naturals a w l = ap naturals (lent-row a w l) ∙ sym (ap (take w) (naturals-drop a l) ∙ naturals-take w (drop a l))
 
 -- ---- inside a shape: `rows_inside`
 
@@ -92,25 +62,19 @@ module _ {shape numbers : List ℤ} {w n i : ℕ} (p : RowsBelow shape w n i num
     row-short = let e = p .wide in rw (lent-row (i * w) w numbers) (unfold part in rw length-take (omega arith))
 
     module _ {t : Bool} (e : t ≡ allBelow (naturals (take (i * w + w - i * w) (drop (i * w) numbers))) (shapeIn shape)) where
-      tested : below shape (getD (rowsOf w n (naturals numbers)) i []) ≡ t
-      tested = sym (e ∙ ap (below shape) (lent-naturals (i * w) w numbers ∙ sym (rows-at w n i (naturals numbers) h)))
+      tested : t ≡ below shape (getD (rowsOf w n (naturals numbers)) i [])
+      tested = e ∙ ap (below shape) (lent-naturals (i * w) w numbers ∙ sym (rows-row w n i (naturals numbers) h))
 
       -- it is inside
       pub rows-turn : not t ≡ false → RowsBelow shape w n (i + 1) numbers
-      rows-turn f = record { wide = p .wide; room = p .room; passed = one-more (p .passed) [] h (tested ∙ not-false t f) }
+      rows-turn f = record { wide = p .wide; room = p .room; passed = one-more (p .passed) [] h tested (not-false t f) }
 
       -- it is not
       pub rows-stop : not t ≡ true → false ≡ all (λ row. allBelow row (shapeIn shape)) (rowsOf w n (naturals numbers))
-      rows-stop f = one-fails (p .passed) [] h (tested ∙ not-true t f)
+      rows-stop f = one-fails (p .passed) [] h tested (not-true t f)
 
   -- all are
   pub rows-done : n ≤ i → true ≡ all (λ row. allBelow row (shapeIn shape)) (rowsOf w n (naturals numbers))
   rows-done h = all-passed (p .passed) h
 
 pub ruleset laws = (rows-start, row-ended, row-short, rows-turn, rows-stop, rows-done)
-
--- ---- all different: `all_differ`
-
--- rows in order are
-pub rising-differ : {t : Bool} (rows : List (List ℕ)) → t ≡ increasing rows → t ≡ true → true ≡ distinct rows
-rising-differ rows e f = sym (eq-eqb _ _ (increasing-distinct (increasing-true rows (sym e ∙ f))))

@@ -1,12 +1,12 @@
 -- `dense`, `new_empty` and `diagonal`: records made of a shape. Assumes nothing.
 use mathlib.Core.Path.{_≡_, refl, sym, ap, _∙_}
 use mathlib.Core.Bool.{Bool, true, false, not}
-use mathlib.Core.List.{List, [], _∷_, _++_, map}
-use Prim.Native.Nat.{ℕ, zero, suc, _+_, _-_, _*_, _<_, _≤_, _^_}
+use mathlib.Core.List.{List, [], _∷_, map}
+use Prim.Native.Nat.{ℕ, zero, suc, _+_, _-_, _≤_}
 use native.Mathlib.Nat.{mul-one}
 use native.Mathlib.Omega.{arith}
 use borrow.Author.Tests.{leb-true, not-true, not-false}
-use lib.IntN.{ℤ, pos, negsuc}
+use lib.IntN.{ℤ, pos}
 use lib.ListN.{length, getD, take, drop, replicate, length-replicate, length-map}
 use lib.Seq.{take-length}
 use lib.Signed.{nonNeg}
@@ -25,16 +25,15 @@ use Rattle.rules.specs.Record.{natural, naturals, sectionAt, shapeIn, goodExten
 use Rattle.rules.specs.Refusals.{Verdict, given, refused, inForm, numberOf, lowest}
 use Rattle.rules.specs.Endings.{EndsIn, resultAfter}
 use Rattle.rules.specs.CountsAndForms.{dense, newEmpty, diagonal}
-use Rattle.rules.proofs.Buffers.{length-part}
 use Rattle.rules.proofs.Extents.{nonzeroProduct}
 use Rattle.rules.proofs.Made.{Formed, formed-made}
+use Rattle.rules.proofs.RowsRead.{pos-naturals}
 use Rattle.rules.proofs.Same.{both-true, true-not-false}
 use Rattle.rules.proofs.Sets.{each-nil, increasing-nil}
 use Rattle.rules.proofs.Soundness.{WellFormed, DepsFit, well-formed-true}
 use Rattle.cells.specs.View.{view}
 use Rattle.cells.proofs.View.{view-part, view-pos}
 use Rattle.tables.proofs.Rows.{lent-row}
-use Rattle.records.specs.Sections.{Laid}
 use Rattle.records.proofs.Sections.{section-laid}
 use Rattle.shapes.specs.Judged.{Judged}
 use Rattle.shapes.proofs.Judging.{rank-counted, rank-small}
@@ -43,13 +42,6 @@ use Rattle.forms.specs.Pieces.{pieces, HasRoom, noDeps, diagonalOf}
 use Rattle.forms.proofs.Pieces.{encode-pieces, ends-same}
 
 -- ---- the extents of a shape
-
--- natural numbers are those that they are read as
-pub pos-naturals : (l : List ℤ) → all nonNeg l ≡ true → l ≡ map pos (naturals l)
-unfolding all natural
-pos-naturals [] e = refl
-pos-naturals (pos n ∷ l) e = ap (λ (t : List ℤ). pos n ∷ t) (pos-naturals l e)
-pos-naturals (negsuc n ∷ l) e = absurd (true-not-false e refl)
 
 -- the extents of a judged shape lie behind their count, and none is negative
 pub record Extents (s : List ℤ) (rank : ℕ) : Type 0 where
@@ -72,7 +64,7 @@ extents s {rank} j e = by (sectionAt 0 1 s) refl (j .good)
         record {
           few = rank-small s j counted;
           room = omega (arith, l .first, l .next, l .room, mul-one (x .count));
-          are = pos-naturals (part 1 rank s) (rw count natural) ∙ ap (λ (n : ℕ). map pos (naturals (part 1 n s))) counted;
+          are = sym (pos-naturals (part 1 rank s) (rw count natural)) ∙ ap (λ (n : ℕ). map pos (naturals (part 1 n s))) counted;
         }
     by Cut q f = absurd (true-not-false f refl)
 

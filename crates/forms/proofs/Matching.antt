@@ -2,12 +2,11 @@
 use mathlib.Core.Path.{_≡_, refl, sym, ap, _∙_}
 use mathlib.Core.Bool.{Bool, true, false, _&&_}
 use mathlib.Core.List.{List, [], _∷_, _++_}
-use Prim.Native.Nat.{ℕ, suc, _+_, _<_, _≤_}
-use native.Mathlib.Omega.{arith}
+use Prim.Native.Nat.{ℕ, suc, _+_, _≤_}
 use borrow.Author.Tests.{eqb-true, eq-eqb}
 use lib.Dec.{eqb}
 use lib.IntN.{ℤ}
-use lib.ListN.{length, getD, take}
+use lib.ListN.{length, take}
 use lib.Seq.{length-take-le}
 use Rattle.rules.specs.declared.Head.{Head}
 use Rattle.rules.specs.Lists.{same, sameRows}
@@ -15,13 +14,13 @@ use Rattle.rules.specs.Buffers.{part}
 use Rattle.rules.specs.Layout.{Layout, rank, section}
 use Rattle.rules.specs.Record.{layoutIn}
 use Rattle.rules.specs.CountsAndForms.{eqNonzeros, eqNonzerosAndDeps}
-use Rattle.rules.proofs.Same.{both-true, true-not-false, same-true, same-refl, same-rows-true, same-rows-refl}
+use Rattle.rules.proofs.Same.{decided, same-true, same-refl, same-rows-true, same-rows-refl}
 use Rattle.rules.proofs.Soundness.{WellFormed}
 use Rattle.rules.proofs.Tests.{conjunct, true-both}
 use Rattle.cells.specs.View.{view}
 use Rattle.cells.proofs.View.{view-length}
-use Rattle.lookups.specs.Sound.{SoundRecord}
-use Rattle.lookups.proofs.SoundRecords.{layout-sound, lies}
+use Rattle.records.specs.Sound.{SoundRecord}
+use Rattle.records.proofs.SoundRecords.{layout-sound}
 use Rattle.forms.proofs.Packed.{numbers, rows-packed, all-packed, section-same, SameFront, front-numbers, numbers-front}
 
 -- ---- two fronts
@@ -47,12 +46,6 @@ pub ruleset fronts = (lengths-differ, numbers-told)
 
 -- ---- two layouts
 
--- two tests that hold together are one
-one-test : (s t : Bool) → (s ≡ true → t ≡ true) → (t ≡ true → s ≡ true) → s ≡ t
-one-test true t f g = sym (f refl)
-one-test false true f g = g refl
-one-test false false f g = refl
-
 -- the layouts of one front
 front-told : {a b : Layout} → eqNonzeros a b ≡ true → SameFront a b
 unfolding eqNonzeros
@@ -74,7 +67,7 @@ module _ {a b : Layout} (f : WellFormed a) (g : WellFormed b) where
   -- the numbers up to the rows tell whether they are equal there
   eq-numbers : same (numbers a []) (numbers b []) ≡ eqNonzeros a b
   eq-numbers =
-      one-test (same (numbers a []) (numbers b [])) (eqNonzeros a b)
+      decided (same (numbers a []) (numbers b [])) (eqNonzeros a b)
       (λ e. told-front (numbers-front [] [] f g (same-true e) .0))
       (λ e. rw (front-numbers [] [] (front-told e) refl) (same-refl (numbers b [])))
 
@@ -86,7 +79,7 @@ module _ {a b : Layout} (f : WellFormed a) (g : WellFormed b) where
   all-numbers : same (numbers a (deps a)) (numbers b (deps b)) ≡ eqNonzerosAndDeps a b
   unfolding eqNonzerosAndDeps
   all-numbers =
-      one-test (same (numbers a (deps a)) (numbers b (deps b))) (eqNonzeros a b && sameRows (a .states) (b .states) && sameRows (a .inputs) (b .inputs)) to back
+      decided (same (numbers a (deps a)) (numbers b (deps b))) (eqNonzeros a b && sameRows (a .states) (b .states) && sameRows (a .inputs) (b .inputs)) to back
     where
       to : same (numbers a (deps a)) (numbers b (deps b)) ≡ true → eqNonzeros a b && sameRows (a .states) (b .states) && sameRows (a .inputs) (b .inputs) ≡ true
       to e =

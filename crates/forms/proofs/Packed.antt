@@ -1,19 +1,19 @@
 -- A sound record is the numbers of its layout, section behind section; and those numbers tell the layout. Assumes nothing.
 use mathlib.Core.Path.{_≡_, refl, sym, ap, _∙_}
 use mathlib.Core.List.{List, [], _∷_, _++_, append-assoc, append-nil}
-use Prim.Native.Nat.{ℕ, zero, suc, _+_, _*_, _-_, _<_, _≤_}
-use native.Mathlib.Nat.{zero-mul, suc-mul}
+use Prim.Native.Nat.{ℕ, suc, _+_, _*_, _-_, _<_, _≤_}
 use native.Mathlib.Omega.{arith}
-use lib.IntN.{ℤ, pos}
-use lib.ListN.{length, getD, take, drop, length-drop}
-use lib.Seq.{take-add, drop-cons, take-suc}
+use lib.IntN.{ℤ}
+use lib.ListN.{length, getD, take, drop}
+use lib.Seq.{take-add, drop-cons}
 use Rattle.rules.specs.declared.Head.{Head}
 use Rattle.rules.specs.declared.Entries.{Entries}
 use Rattle.rules.specs.Lists.{gather}
 use Rattle.rules.specs.Buffers.{part}
 use Rattle.rules.specs.Layout.{Layout, rank, width, section}
-use Rattle.rules.specs.Record.{rowsOf, layoutIn}
+use Rattle.rules.specs.Record.{layoutIn}
 use Rattle.rules.proofs.Buffers.{length-part}
+use Rattle.rules.proofs.RowsRead.{gather-rows}
 use Rattle.rules.proofs.Sets.{Each, each-head, each-tail}
 use Rattle.rules.proofs.Soundness.{WellFormed}
 use Rattle.cells.specs.View.{view, code}
@@ -21,9 +21,8 @@ use Rattle.cells.proofs.View.{view-length, view-getD}
 use Rattle.tables.specs.Rows.{rowsAt}
 use Rattle.tables.proofs.Rows.{length-rows}
 use Rattle.records.specs.Sections.{Laid}
-use Rattle.records.proofs.Layouts.{Bounds, seen}
-use Rattle.lookups.specs.Sound.{SoundRecord}
-use Rattle.lookups.proofs.SoundRecords.{lies, layout-shown}
+use Rattle.records.specs.Sound.{SoundRecord}
+use Rattle.records.proofs.SoundRecords.{lies, layout-shown}
 
 -- the numbers of entries, one after the other
 abbrev pub flat : List (List ℕ) → List ℕ
@@ -31,18 +30,10 @@ flat entries = gather (λ e. e) entries
 
 -- ---- a section of the slice
 
--- rows that lie in a list are its front
-pub rows-flat : (w n : ℕ) (l : List ℕ) → flat (rowsOf w n l) ≡ take (n * w) l
-unfolding rowsOf gather
-rows-flat w zero l = rw zero-mul
-rows-flat w (suc n) l =
-    let size : suc n * w ≡ w + n * w = omega (arith, suc-mul n w) in
-    rw (size, take-add w (n * w) l, rows-flat w n (drop w l))
-
 -- rows of a slice are the part where they lie
 pub rows-part : (a w n : ℕ) (s : List ℤ) → flat (rowsAt a w n s) ≡ part a (n * w) (view s)
 unfolding rowsAt part
-rows-part a w n s = rows-flat w n (drop a (view s))
+rows-part a w n s = gather-rows w n (drop a (view s))
 
 -- up to the end of a section stand what is before it, its count and its entries
 pub section-packed : (i w : ℕ) (s : List ℤ) (e : Entries) → Laid i w s e → take (e .next) (view s) ≡ take i (view s) ++ section (rowsAt (e .first) w (e .count) s)

@@ -1,14 +1,14 @@
 -- `to_dense` and `to_data_layout`: what is written of a sound record. Assumes nothing.
 use mathlib.Core.Path.{_≡_, refl, sym, ap, _∙_}
 use mathlib.Core.Bool.{Bool, true, false}
-use mathlib.Core.List.{List, [], _∷_, _++_, map, append-assoc}
-use Prim.Native.Nat.{ℕ, _+_, _-_, _*_, _<_, _≤_}
+use mathlib.Core.List.{List, [], _++_, map, append-assoc}
+use Prim.Native.Nat.{ℕ, _+_, _-_, _*_, _≤_}
 use native.Mathlib.Nat.{mul-le-mul}
 use native.Mathlib.Omega.{arith}
 use borrow.Author.Tests.{eqb-false}
 use lib.Dec.{eqb}
 use lib.IntN.{ℤ, pos}
-use lib.ListN.{length, take, drop, length-map}
+use lib.ListN.{length, take, drop}
 use lib.Seq.{drop-at, length-take-le}
 use Rattle.rules.specs.declared.Head.{Head}
 use Rattle.rules.specs.declared.Written.{Written}
@@ -21,13 +21,12 @@ use Rattle.rules.specs.Refusals.{given}
 use Rattle.rules.specs.Endings.{EndsIn}
 use Rattle.rules.specs.CountsAndForms.{toDense, toDataLayout}
 use Rattle.rules.proofs.Buffers.{part-take, length-part}
-use Rattle.rules.proofs.Soundness.{WellFormed}
 use Rattle.cells.specs.View.{view}
 use Rattle.cells.proofs.View.{view-length, view-part, low-view}
 use Rattle.tables.specs.Rows.{rowsAt}
 use Rattle.records.proofs.Low.{low-part}
-use Rattle.lookups.specs.Sound.{SoundRecord}
-use Rattle.lookups.proofs.SoundRecords.{lies, layout-shown, layout-sound}
+use Rattle.records.specs.Sound.{SoundRecord}
+use Rattle.records.proofs.SoundRecords.{lies, layout-shown, layout-sound}
 use Rattle.forms.specs.Pieces.{pieces, HasRoom}
 use Rattle.forms.proofs.Packed.{flat, rows-part, section-packed}
 use Rattle.forms.proofs.Pieces.{ends-given, ends-same, encode-pieces}

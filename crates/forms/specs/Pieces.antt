@@ -1,11 +1,9 @@
 -- A record as it is written, piece by piece, and the layouts that constructors write.
-use mathlib.Core.Path.{_≡_}
 use mathlib.Core.List.{List, [], _∷_, _++_}
 use Prim.Native.Nat.{ℕ, _+_, _^_, _<_, _≤_}
 use lib.IntN.{ℤ, pos}
 use lib.ListN.{length}
 use Rattle.rules.specs.Layout.{Layout}
-use Rattle.rules.specs.Limits.{resultSize}
 use Rattle.rules.specs.Record.{entriesOf, naturals}
 
 -- kind, D, the extents behind their count, the numbers of the rows behind theirs, and both dependency sections

@@ -6,7 +6,7 @@ ghost use Rattle.rules.specs.Lists.{same};
 ghost use Rattle.rules.specs.Record.{layoutIn};
 ghost use Rattle.rules.specs.CountsAndForms.{eqNonzeros, eqNonzerosAndDeps};
 ghost use Rattle.cells.specs.View.{view};
-ghost use Rattle.lookups.specs.Sound.{SoundRecord};
+ghost use Rattle.records.specs.Sound.{SoundRecord};
 use rules::Head;
 
 // Whether the first m numbers of a are the first n of b.

@@ -1,7 +1,7 @@
 // Rows that become a sparse record: judged, then written.
 ghost use mathlib.Core.Path.{_≡_};
 ghost use mathlib.Core.Bool.{true, _&&_};
-ghost use Prim.Native.Nat.{_*_, _≤_, _^_, _<_};
+ghost use Prim.Native.Nat.{_*_, _≤_, _<_};
 ghost use lib.ListN.{length};
 ghost use lib.Signed.{nonNeg};
 ghost use Rattle.rules.specs.Lists.{all, allBelow};
@@ -14,6 +14,8 @@ ghost use Rattle.rules.specs.CountsAndForms.{sparse};
 ghost use Rattle.tables.specs.Rows.{rowsAt, HasRows};
 ghost use Rattle.shapes.specs.Judged.{Judged};
 ghost use Rattle.forms.specs.Pieces.{sparseOf};
+ghost use Rattle.forms.specs.Windows.{RowsInside};
+use super::windows::differ_in_windows;
 use super::writing::write_record;
 use rules::Refusal;
 use rules::Written;
@@ -37,15 +39,19 @@ fn rows_inside(shape: &[i32], w: usize, n: usize, numbers: &[i32]) -> bool
     true
 }
 
-// Whether no two of n rows are the same; rows in order are told so in one walk.
-fn all_differ(w: usize, n: usize, numbers: &[i32]) -> bool
+// Whether no two of n rows inside a shape are the same. Many rows that are not in order are told apart by their numbers.
+fn rows_differ(shape: &[i32], w: usize, n: usize, numbers: &[i32]) -> bool
+    requires { ⌜ RowsInside (now shape) w n (now numbers) ⌝ }
     requires { ⌜ HasRows 0 w n (now numbers) ⌝ }
     ensures { λ r. ⌜ r ≡ distinct (rowsAt 0 w n (now (numbers .entry))) ⌝ }
 {
+    if n <= 128 {
+        return tables::all_differ(numbers, 0, n, w);
+    }
     if tables::is_increasing(numbers, 0, n, w) {
         return true;
     }
-    tables::distinct(numbers, 0, n, w)
+    differ_in_windows(shape, w, n, numbers)
 }
 
 // Whether the numbers are n rows of a sparse layout: natural, inside the shape and all different. Without axes all rows are the same.
@@ -64,7 +70,7 @@ fn rows_fit(shape: &[i32], n: usize, numbers: &[i32]) -> bool
     if !rows_inside(shape, w, n, numbers) {
         return false;
     }
-    all_differ(w, n, numbers)
+    rows_differ(shape, w, n, numbers)
 }
 
 // The sparse record of a shape and n rows is written, if they fit and are not too many.

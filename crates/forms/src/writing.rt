@@ -1,9 +1,8 @@
 // A record written to the front of a result from its pieces.
-ghost use mathlib.Core.Path.{_≡_};
 ghost use mathlib.Core.List.{[], map};
-ghost use Prim.Native.Nat.{_≤_, _^_, _<_};
+ghost use Prim.Native.Nat.{_≤_};
 ghost use lib.IntN.{pos};
-ghost use lib.ListN.{length, replicate};
+ghost use lib.ListN.{length};
 ghost use Rattle.rules.specs.Limits.{resultSize};
 ghost use Rattle.rules.specs.Layout.{encode};
 ghost use Rattle.rules.specs.Record.{shapeIn, layoutIn};
@@ -11,7 +10,7 @@ ghost use Rattle.rules.specs.Refusals.{given, inForm};
 ghost use Rattle.rules.specs.Endings.{EndsIn};
 ghost use Rattle.rules.specs.CountsAndForms.{toDense, toDataLayout, dense, newEmpty, newScalar, diagonal};
 ghost use Rattle.shapes.specs.Judged.{Judged};
-ghost use Rattle.lookups.specs.Sound.{SoundRecord};
+ghost use Rattle.records.specs.Sound.{SoundRecord};
 ghost use Rattle.forms.specs.Pieces.{pieces, HasRoom, noDeps};
 use rules::Head;
 use rules::Refusal;

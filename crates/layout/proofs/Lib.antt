@@ -5,6 +5,7 @@ pub mod Listed
 pub mod Required
 pub mod SoundRecords
 pub mod Results
+pub mod Shapes
 pub mod Pairs
 pub mod Loaded
 pub mod Unions

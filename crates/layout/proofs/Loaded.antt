@@ -1,18 +1,14 @@
 -- Two judged records in the first two parts of the working buffer. Assumes nothing.
-use mathlib.Core.Path.{_≡_, refl, sym, ap, _∙_, subst}
-use mathlib.Core.Logic.{inl, inr}
-use Prim.Native.Nat.{ℕ, _≤_}
+use mathlib.Core.Path.{_≡_, _∙_, subst}
+use mathlib.Core.Logic.{inl}
+use Prim.Native.Nat.{ℕ}
 use native.Mathlib.Omega.{arith}
-use mathlib.Core.Bool.{true}
 use mathlib.Core.List.{List}
 use lib.IntN.{ℤ}
-use lib.ListN.{length}
 use Rattle.rules.specs.declared.Refusal.{Refusal}
 use Rattle.rules.specs.declared.Head.{Head}
-use Rattle.rules.specs.declared.Walk.the-variants.{To}
 use Rattle.rules.specs.Refusals.{numberOf}
-use Rattle.rules.specs.Record.{walk, layoutIn, sound}
-use Rattle.records.specs.Judging.{Plain}
+use Rattle.rules.specs.Record.{layoutIn}
 use Rattle.tables.specs.Tables.{Only}
 use Rattle.tables.proofs.Only.{only-then, only-wider}
 use Rattle.parts.specs.Parts.{layoutAt, Holds}
@@ -20,7 +16,7 @@ use Rattle.parts.specs.Answers.{Loaded}
 use Rattle.parts.proofs.Holds.{layout-outside, holds-outside}
 use Rattle.layout.specs.declared.judging.Pair.{Pair}
 use Rattle.layout.specs.declared.judging.Pair.the-variants.{Heads, Early, Late}
-use Rattle.layout.specs.Pairs.{Read, BothRead, RefusedEarly, RefusedLate, PairIs}
+use Rattle.layout.specs.Pairs.{BothRead, RefusedEarly, RefusedLate, PairIs}
 
 -- ---- what was judged, by the case that was met
 
@@ -33,13 +29,6 @@ module _ (s t : List ℤ) (result work : ℕ) {r : Pair} (p : PairIs s t result 
 
   pub pair-heads : {x y : Head} → r ≡ Heads x y → BothRead s t result work x y
   pair-heads e = subst (PairIs s t result work) e p
-
--- what `load` asks of a record that was read
-abbrev pub Readable : List ℤ → Head → Type 0
-Readable s h = (walk s ≡ To h) × (sound s ≡ true) × Plain h s
-
-pub readable : {s : List ℤ} {h : Head} → Read s h → Readable s h
-readable r = (r .walked, r .is-sound, r .plain)
 
 -- ---- one record loaded behind the other
 

@@ -1,29 +1,27 @@
 -- The ways out of a function that is lent a result. Assumes nothing.
-use mathlib.Core.Path.{_≡_, refl, sym, ap, _∙_}
-use mathlib.Core.Bool.{Bool, true, false, not}
+use mathlib.Core.Path.{_≡_, refl, ap}
+use mathlib.Core.Bool.{true, false}
 use mathlib.Core.List.{List}
 use Prim.Native.Nat.{ℕ, _*_, _<_, _≤_, _^_}
 use native.Mathlib.Nat.{mul-le-mul, le-of-lt, lt-of-le-of-lt}
-use native.Mathlib.Omega.{arith}
-use borrow.Author.Tests.{lt-ltb, le-ltb, ltb-false, eq-eqb, ne-eqb, not-false}
+use borrow.Author.Tests.{lt-ltb, le-ltb, ltb-false, eq-eqb, ne-eqb}
 use lib.Dec.{eqb, ltb, lit<}
 use lib.IntN.{ℤ}
 use lib.ListN.{length}
-use lib.Signed.{nonNeg}
 use mir.Syntax.{w64}
 use mir.Val.{Fits}
 use Rattle.rules.specs.declared.Refusal.{Refusal}
 use Rattle.rules.specs.declared.Written.{Written}
 use Rattle.rules.specs.declared.Written.the-variants.{Refused}
 use Rattle.rules.specs.Refusals.{Verdict, refused, inForm, numberOf}
-use Rattle.rules.specs.Record.{natural, shapeIn, goodShape}
-use Rattle.rules.specs.Arguments.{overRank, overShape, shortResult}
+use Rattle.rules.specs.Record.{natural, shapeIn}
+use Rattle.rules.specs.Arguments.{overRank, shortResult}
 use Rattle.rules.specs.Endings.{EndsIn, resultAfter}
 use Rattle.cells.specs.declared.Sign.{Sign}
 use Rattle.cells.specs.declared.Sign.the-variants.{Natural, Negative}
 use Rattle.cells.specs.View.{signOf, sizeOf}
-use Rattle.shapes.specs.Judged.{Judged}
-use Rattle.shapes.proofs.Reading.{as-natural, as-nothing, small-read}
+use Rattle.records.proofs.Sections.{size-natural}
+use Rattle.shapes.proofs.Reading.{as-natural, as-nothing}
 
 module _ {A : Type 0} (form : A → List ℤ) (v : Verdict A) where
   -- a refusal leaves the result as it was
@@ -45,10 +43,6 @@ module _ (n : ℕ) where
   -- it is long enough
   pub result-long : 1802 ≤ n → shortResult n ≡ false
   result-long h = le-ltb n 1802 h
-
--- a shape that is not refused
-pub judged-shape : (s : List ℤ) {o g : Bool} → o ≡ overShape s → o ≡ false → g ≡ goodShape s → not g ≡ false → Judged s
-judged-shape s {g = g} e f h k = record { small = sym e ∙ f; good = sym h ∙ not-false g k }
 
 module _ {g : Sign} (z : ℤ) (e : g ≡ signOf z) where
   -- an asked rank by its sign
@@ -72,6 +66,6 @@ module _ (s : List ℤ) (size : ℕ) (z : ℤ) {n w : ℕ} (e : n ≡ natural z)
 
 -- their count does not wrap
 pub rows-fit : {g : Sign} {n w : ℕ} → sizeOf g < 2 ^ 31 → g ≡ Natural n → w ≤ 4 → Fits w64 (n * w)
-rows-fit h e k = record { fits = lt-of-le-of-lt (mul-le-mul (le-of-lt (small-read h e)) k) (lit< tt) }
+rows-fit h e k = record { fits = lt-of-le-of-lt (mul-le-mul (le-of-lt (size-natural h e)) k) (lit< tt) }
 
 pub ruleset results = (result-short, result-long)

@@ -1,38 +1,106 @@
--- What is judged of a record, and what the steps require of it. Assumes nothing.
-use mathlib.Core.Path.{_≡_, refl, sym, ap, _∙_}
-use mathlib.Core.Bool.{Bool, true, false, not, _&&_}
+-- What is judged of one record and of two, and what the steps require of them. Assumes nothing.
+use mathlib.Core.Path.{_≡_, sym, ap, _∙_, subst}
+use mathlib.Core.Bool.{Bool, true, false, _&&_, _||_}
 use mathlib.Core.List.{List}
 use Prim.Native.Nat.{ℕ, _-_}
 use lib.IntN.{ℤ, pos}
 use lib.ListN.{length, getD, take, drop}
 use Rattle.rules.specs.declared.Head.{Head}
+use Rattle.rules.specs.declared.Refusal.{Refusal}
+use Rattle.rules.specs.declared.Refusal.the-variants.{OverCount, Unsound}
 use Rattle.rules.specs.declared.Walk.{Walk}
 use Rattle.rules.specs.declared.Walk.the-variants.{To, Broken}
-use Rattle.rules.specs.Record.{natural, walk, layoutIn, sound, shapeIn}
+use Rattle.rules.specs.Record.{natural, layoutIn, sound, shapeIn}
 use Rattle.rules.specs.Arguments.{overRecord, goodIndex}
 use Rattle.rules.specs.Layout.{Layout}
-use Rattle.rules.specs.Refusals.{Verdict, given, lowest}
+use Rattle.rules.specs.Refusals.{Verdict, given, refused, numberOf, lowest}
 use Rattle.rules.specs.CountsAndForms.{minRankOf, ofRecords}
-use Rattle.records.proofs.Answers.{sound-broken}
-use Rattle.records.proofs.Walks.{walked-head}
-use Rattle.lookups.proofs.SoundRecords.{HasHead, lent-shape}
+use Rattle.records.specs.Sound.{SoundRecord, soundHead, PlainHead}
+use Rattle.records.proofs.SoundRecords.{no-head, sound-record}
+use Rattle.lookups.proofs.SoundRecords.{lent-shape}
+use Rattle.layout.specs.declared.judging.Two.{Two}
+use Rattle.layout.specs.declared.judging.Two.the-variants.{Sound, Refused}
+use Rattle.layout.specs.Judging.{recordReasons, BothSound, TwoAre}
 
--- a record that cannot be walked is not sound
-pub broken-unsound : (s : List ℤ) {w : Walk} → w ≡ walk s → w ≡ Broken → sound s ≡ false
-broken-unsound s e f = sym (sound-broken s e f)
+-- ---- one record
 
--- the rank of a walked record is the one that stands in the slice
-pub index-counted : (s index : List ℤ) {w : Walk} {h : Head} {b : Bool} → w ≡ walk s → w ≡ To h → b ≡ goodIndex index (h .rank) →
+-- one that has a head is sound
+pub head-sound : (s : List ℤ) {r : Walk} {h : Head} → r ≡ soundHead s → PlainHead r s → r ≡ To h → sound s ≡ true
+head-sound s e p f = sound-record s e p f .judged
+
+pub ruleset heads = (no-head, sound-record, head-sound)
+
+-- its rank is the one that stands in the slice
+pub index-counted : (s index : List ℤ) {h : Head} {b : Bool} → SoundRecord h s → b ≡ goodIndex index (h .rank) →
     b ≡ goodIndex index (natural (getD s 2 (pos 0)))
 unfolding natural
-index-counted s index e f g = g ∙ rw (walked-head s (sym e ∙ f) .rank)
+index-counted s index r g = g ∙ rw (r .plain .head .rank)
 
 -- what was read of the shape is so of the layout's
-pub min-rank-read : {s : List ℤ} {n : ℕ} → HasHead s → n ≡ minRankOf (shapeIn (take (length s - 2) (drop 2 s))) → n ≡ minRankOf (layoutIn s .shape)
-min-rank-read h e = e ∙ ap minRankOf (lent-shape (h .is))
+pub min-rank-read : {s : List ℤ} {h : Head} {n : ℕ} → SoundRecord h s → n ≡ minRankOf (shapeIn (take (length s - 2) (drop 2 s))) →
+    n ≡ minRankOf (layoutIn s .shape)
+min-rank-read r e = e ∙ ap minRankOf (lent-shape r)
 
--- two records that are not refused
-pub both-judged : {A : Type 0} (f : Layout → Layout → A) (s t : List ℤ) {v : Verdict A} → overRecord s ≡ false → overRecord t ≡ false → sound s ≡ true → sound t ≡ true →
+-- ---- two records, one after the other
+
+module _ (s t : List ℤ) where
+  -- the first has too many axes
+  pub over-first : {a : Bool} → a ≡ overRecord s → a ≡ true → (overRecord s || overRecord t) ≡ true
+  over-first e f = rw (sym e ∙ f)
+
+  -- the second has
+  pub over-second : {a b : Bool} → a ≡ overRecord s → a ≡ false → b ≡ overRecord t → b ≡ true → (overRecord s || overRecord t) ≡ true
+  over-second e f g k = rw (sym e ∙ f, sym g ∙ k)
+
+  -- neither has
+  pub record NoneOver : Type 0 where
+    pub is : (overRecord s || overRecord t) ≡ false
+
+  pub none-over : {a b : Bool} → a ≡ overRecord s → a ≡ false → b ≡ overRecord t → b ≡ false → NoneOver
+  none-over e f g k = record { is = rw (sym e ∙ f, sym g ∙ k) }
+
+  -- the first is not sound
+  pub unsound-first : {r : Walk} → r ≡ soundHead s → r ≡ Broken → (sound s && sound t) ≡ false
+  unsound-first e f = rw (no-head s e f)
+
+  -- the second is not
+  pub unsound-second : {q r : Walk} {x : Head} → q ≡ soundHead s → PlainHead q s → q ≡ To x → r ≡ soundHead t → r ≡ Broken →
+      (sound s && sound t) ≡ false
+  unsound-second d p g e f = rw (head-sound s d p g, no-head t e f)
+
+pub ruleset pairs = (over-first, over-second, none-over, unsound-first, unsound-second, sound-record)
+
+-- ---- the ways out of `judge_records`
+
+module _ (s t : List ℤ) where
+  -- 1
+  pub two-over : (overRecord s || overRecord t) ≡ true → lowest (recordReasons s t) ≡ refused (numberOf OverCount)
+  unfolding lowest numberOf
+  two-over e = rw e
+
+  -- 3
+  pub two-unsound : NoneOver s t → (sound s && sound t) ≡ false → lowest (recordReasons s t) ≡ refused (numberOf Unsound)
+  unfolding lowest numberOf
+  two-unsound o e = rw (o .is, e)
+
+  -- neither
+  pub two-sound : NoneOver s t → {x y : Head} → SoundRecord x s → SoundRecord y t → BothSound s t x y
+  unfolding lowest
+  two-sound o p q = record { none-holds = rw (o .is, p .judged, q .judged); first = p; second = q }
+
+pub ruleset two = (pairs, two-over, two-unsound, two-sound)
+
+-- ---- what was judged of two records, by the case that was met
+
+module _ (s t : List ℤ) {r : Two} (p : TwoAre s t r) where
+  pub both-sound : {x y : Head} → r ≡ Sound x y → BothSound s t x y
+  both-sound e = subst (TwoAre s t) e p
+
+  -- the call is refused
+  pub two-refused : {A : Type 0} (f : Layout → Layout → A) {why : Refusal} → r ≡ Refused why → refused (numberOf why) ≡ ofRecords f s t
+  two-refused f {why} e = let is : lowest (recordReasons s t) ≡ refused (numberOf why) = subst (TwoAre s t) e p in rw is
+
+-- the call gives its answer
+pub two-given : {A : Type 0} (f : Layout → Layout → A) {s t : List ℤ} {x y : Head} {v : Verdict A} → BothSound s t x y →
     v ≡ given (f (layoutIn s) (layoutIn t)) → v ≡ ofRecords f s t
-unfolding lowest
-both-judged f s t a b c d e = e ∙ rw (a, b, c, d)
+two-given f b e = e ∙ rw (b .none-holds)

@@ -1,11 +1,10 @@
 -- `union` from end to end. Assumes nothing.
-use mathlib.Core.Path.{_≡_, refl, sym, ap, _∙_}
-use mathlib.Core.Logic.{inl, inr}
-use mathlib.Core.Bool.{Bool, not, _||_, _&&_}
+use mathlib.Core.Path.{_≡_, refl, sym, _∙_}
+use mathlib.Core.Logic.{inl}
+use mathlib.Core.Bool.{not, _||_, _&&_}
 use mathlib.Core.List.{List, [], _∷_}
 use Prim.Native.Nat.{ℕ, _≤_}
 use native.Mathlib.Omega.{arith}
-use lib.Dec.{eqb}
 use lib.IntN.{ℤ}
 use lib.ListN.{length}
 use Rattle.rules.specs.declared.Refusal.{Refusal}
@@ -22,13 +21,12 @@ use Rattle.rules.specs.Buffers.{over, zeros}
 use Rattle.rules.specs.CountsAndForms.{toDense}
 use Rattle.rules.specs.Removal.{lowered, lowerD, listsRow, barsExpansion}
 use Rattle.rules.specs.Union.{withMerged, joined, alikeDiagonals, unionOfRows, union, unionCall}
-use Rattle.tables.specs.Tables.{Only}
 use Rattle.tables.proofs.Only.{only-same, only-then, only-wider}
 use Rattle.parts.specs.Parts.{layoutAt}
 use Rattle.parts.specs.Answers.{Finished}
 use Rattle.parts.proofs.Ending.{Late, late-if, late-then, late-lowest, late-made, call-finished, call-refused}
 use Rattle.combine.specs.Uniting.{UnionAsked, UnionMade}
-use Rattle.layout.specs.Pairs.{pairReasons, BothRead, RefusedEarly, RefusedLate}
+use Rattle.layout.specs.Pairs.{BothRead, RefusedEarly, RefusedLate}
 use Rattle.layout.proofs.Loaded.{Both}
 
 -- ---- a union that is refused is refused with 3 or more

@@ -1,2 +1,3 @@
 -- What the contracts inside layout cite.
+pub mod Judging
 pub mod Pairs

@@ -6,11 +6,10 @@ use Prim.Native.Nat.{ℕ, _≤_}
 use lib.Dec.{eqb}
 use lib.IntN.{ℤ}
 use Rattle.rules.specs.declared.Head.{Head}
-use Rattle.rules.specs.declared.Walk.the-variants.{To}
 use Rattle.rules.specs.Refusals.{given, refused, numberOf, Reason, _when_, lowest}
-use Rattle.rules.specs.Record.{walk, sound}
+use Rattle.rules.specs.Record.{sound}
 use Rattle.rules.specs.Arguments.{overRecord, shortResult, shortWork}
-use Rattle.records.specs.Judging.{Plain}
+use Rattle.records.specs.Sound.{SoundRecord}
 use Rattle.layout.specs.declared.judging.Pair.{Pair}
 use Rattle.layout.specs.declared.judging.Pair.the-variants.{Heads, Early, Late}
 
@@ -22,19 +21,13 @@ pairReasons s t result work =
     ∷ 3 when not (sound s && sound t)
     ∷ []
 
--- a record that was walked and is sound
-pub record Read (s : List ℤ) (h : Head) : Type 0 where
-  pub walked : walk s ≡ To h
-  pub is-sound : sound s ≡ true
-  pub plain : Plain h s
-
 -- none of 1 to 3 holds
 pub record BothRead (s t : List ℤ) (result work : ℕ) (x y : Head) : Type 0 where
   pub none-holds : lowest (pairReasons s t result work) ≡ given tt
   pub result-long : 1802 ≤ result
   pub work-long : 10812 ≤ work
-  pub first : Read s x
-  pub second : Read t y
+  pub first : SoundRecord x s
+  pub second : SoundRecord y t
 
 -- 1 or 2 is given
 pub record RefusedEarly (s t : List ℤ) (result work : ℕ) (n : ℕ) : Type 0 where

@@ -6,6 +6,8 @@ ghost use Rattle.rules.specs.Arguments.{overRank};
 ghost use Rattle.rules.specs.Refusals.{inForm};
 ghost use Rattle.rules.specs.Endings.{EndsIn};
 ghost use Rattle.rules.specs.CountsAndForms.{toDenseCall, toDataLayoutCall, newEmptyCall, newScalarCall, denseCall, diagonalCall, sparseCall};
+use super::judging::Shape;
+use super::judging::judge_shape;
 use cells::Sign;
 use rules::Refusal;
 use rules::Walk;
@@ -21,12 +23,9 @@ pub fn to_dense(record: &[i32], result: &mut [i32]) -> Written
     if result.len() < 1802 {
         return Written::Refused(Refusal::ShortBuffer);
     }
-    let Walk::To(head) = records::walk_record(record) else {
+    let Walk::To(head) = records::sound_head(record) else {
         return Written::Refused(Refusal::Unsound);
     };
-    if !records::sound(record) {
-        return Written::Refused(Refusal::Unsound);
-    }
     forms::to_dense(record, head, result)
 }
 
@@ -40,12 +39,9 @@ pub fn to_data_layout(record: &[i32], result: &mut [i32]) -> Written
     if result.len() < 1802 {
         return Written::Refused(Refusal::ShortBuffer);
     }
-    let Walk::To(head) = records::walk_record(record) else {
+    let Walk::To(head) = records::sound_head(record) else {
         return Written::Refused(Refusal::Unsound);
     };
-    if !records::sound(record) {
-        return Written::Refused(Refusal::Unsound);
-    }
     forms::to_data_layout(record, head, result)
 }
 
@@ -89,46 +85,28 @@ pub fn new_scalar(result: &mut [i32]) -> Written
 pub fn dense(shape: &[i32], result: &mut [i32]) -> Written
     ensures { λ r. ⌜ EndsIn (inForm encode (denseCall (now (shape .entry)) (length (now (result .entry))))) (now (result .entry)) r (now (result .exit)) ⌝ }
 {
-    if shapes::over_shape(shape) {
-        return Written::Refused(Refusal::OverCount);
+    match judge_shape(shape, result.len()) {
+        Shape::Refused(why) => Written::Refused(why),
+        Shape::Good => forms::dense(shape, result),
     }
-    if result.len() < 1802 {
-        return Written::Refused(Refusal::ShortBuffer);
-    }
-    if !shapes::good_shape(shape) {
-        return Written::Refused(Refusal::WrongArgument);
-    }
-    forms::dense(shape, result)
 }
 
 // The diagonal record of a shape, whose extents must be the same.
 pub fn diagonal(shape: &[i32], result: &mut [i32]) -> Written
     ensures { λ r. ⌜ EndsIn (inForm encode (diagonalCall (now (shape .entry)) (length (now (result .entry))))) (now (result .entry)) r (now (result .exit)) ⌝ }
 {
-    if shapes::over_shape(shape) {
-        return Written::Refused(Refusal::OverCount);
+    match judge_shape(shape, result.len()) {
+        Shape::Refused(why) => Written::Refused(why),
+        Shape::Good => forms::diagonal(shape, result),
     }
-    if result.len() < 1802 {
-        return Written::Refused(Refusal::ShortBuffer);
-    }
-    if !shapes::good_shape(shape) {
-        return Written::Refused(Refusal::WrongArgument);
-    }
-    forms::diagonal(shape, result)
 }
 
 // The sparse record of a shape and so many rows, as they come.
 pub fn sparse(shape: &[i32], count: i32, numbers: &[i32], result: &mut [i32]) -> Written
     ensures { λ r. ⌜ EndsIn (inForm encode (sparseCall (now (shape .entry)) count (now (numbers .entry)) (length (now (result .entry))))) (now (result .entry)) r (now (result .exit)) ⌝ }
 {
-    if shapes::over_shape(shape) {
-        return Written::Refused(Refusal::OverCount);
-    }
-    if result.len() < 1802 {
-        return Written::Refused(Refusal::ShortBuffer);
-    }
-    if !shapes::good_shape(shape) {
-        return Written::Refused(Refusal::WrongArgument);
+    if let Shape::Refused(why) = judge_shape(shape, result.len()) {
+        return Written::Refused(why);
     }
     let Sign::Natural(n) = cells::sign_of(count) else {
         return Written::Refused(Refusal::WrongArgument);

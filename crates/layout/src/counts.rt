@@ -3,6 +3,8 @@ ghost use mathlib.Core.Path.{_≡_};
 ghost use Rattle.rules.specs.Refusals.{given};
 ghost use Rattle.rules.specs.Endings.{numberSays, testSays};
 ghost use Rattle.rules.specs.CountsAndForms.{nnzCall, minRankCall, eqNonzerosCall, eqNonzerosAndDepsCall};
+use super::judging::Two;
+use super::judging::judge_records;
 use rules::Number;
 use rules::Refusal;
 use rules::Test;
@@ -15,12 +17,9 @@ pub fn nnz(record: &[i32]) -> Number
     if records::over_record(record) {
         return Number::Refused(Refusal::OverCount);
     }
-    let Walk::To(head) = records::walk_record(record) else {
+    let Walk::To(head) = records::sound_head(record) else {
         return Number::Refused(Refusal::Unsound);
     };
-    if !records::sound(record) {
-        return Number::Refused(Refusal::Unsound);
-    }
     Number::Is(lookups::nnz(record, head))
 }
 
@@ -31,9 +30,9 @@ pub fn min_rank(record: &[i32]) -> Number
     if records::over_record(record) {
         return Number::Refused(Refusal::OverCount);
     }
-    if !records::sound(record) {
+    let Walk::To(_) = records::sound_head(record) else {
         return Number::Refused(Refusal::Unsound);
-    }
+    };
     Number::Is(lookups::min_rank(&record[2..]))
 }
 
@@ -51,48 +50,18 @@ fn answer(holds: bool) -> Test
 pub fn eq_nonzeros(a: &[i32], b: &[i32]) -> Test
     ensures { λ r. ⌜ testSays r ≡ eqNonzerosCall (now (a .entry)) (now (b .entry)) ⌝ }
 {
-    if records::over_record(a) {
-        return Test::Refused(Refusal::OverCount);
+    match judge_records(a, b) {
+        Two::Refused(why) => Test::Refused(why),
+        Two::Sound(x, y) => answer(forms::eq_nonzeros(a, x, b, y)),
     }
-    if records::over_record(b) {
-        return Test::Refused(Refusal::OverCount);
-    }
-    let Walk::To(x) = records::walk_record(a) else {
-        return Test::Refused(Refusal::Unsound);
-    };
-    if !records::sound(a) {
-        return Test::Refused(Refusal::Unsound);
-    }
-    let Walk::To(y) = records::walk_record(b) else {
-        return Test::Refused(Refusal::Unsound);
-    };
-    if !records::sound(b) {
-        return Test::Refused(Refusal::Unsound);
-    }
-    answer(forms::eq_nonzeros(a, x, b, y))
 }
 
 // Whether two records have the same dependencies too.
 pub fn eq_nonzeros_and_deps(a: &[i32], b: &[i32]) -> Test
     ensures { λ r. ⌜ testSays r ≡ eqNonzerosAndDepsCall (now (a .entry)) (now (b .entry)) ⌝ }
 {
-    if records::over_record(a) {
-        return Test::Refused(Refusal::OverCount);
+    match judge_records(a, b) {
+        Two::Refused(why) => Test::Refused(why),
+        Two::Sound(x, y) => answer(forms::eq_nonzeros_and_deps(a, x, b, y)),
     }
-    if records::over_record(b) {
-        return Test::Refused(Refusal::OverCount);
-    }
-    let Walk::To(x) = records::walk_record(a) else {
-        return Test::Refused(Refusal::Unsound);
-    };
-    if !records::sound(a) {
-        return Test::Refused(Refusal::Unsound);
-    }
-    let Walk::To(y) = records::walk_record(b) else {
-        return Test::Refused(Refusal::Unsound);
-    };
-    if !records::sound(b) {
-        return Test::Refused(Refusal::Unsound);
-    }
-    answer(forms::eq_nonzeros_and_deps(a, x, b, y))
 }

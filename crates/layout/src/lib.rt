@@ -6,6 +6,7 @@ mod lookup; // lookup.rt: module 4, lookup
 mod counts; // counts.rt: module 5, counts and equality
 mod constructors; // constructors.rt: module 5, forms and constructors
 mod uniting; // uniting.rt: module 8, union
+mod refusals; // refusals.rt: refusals by number
 
 pub use broadcasting::broadcast_shapes;
 pub use broadcasting::can_broadcast_to;
@@ -27,4 +28,5 @@ pub use positions::unravel_index;
 pub use records::ordered;
 pub use records::row;
 pub use records::sound;
+pub use refusals::number_of;
 pub use uniting::union;

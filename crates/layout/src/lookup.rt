@@ -13,13 +13,10 @@ pub fn find_nnz_index(record: &[i32], index: &[i32]) -> Place
     if records::over_record(record) {
         return Place::Refused(Refusal::OverCount);
     }
-    let Walk::To(head) = records::walk_record(record) else {
+    let Walk::To(head) = records::sound_head(record) else {
         return Place::Refused(Refusal::Unsound);
     };
-    if !records::sound(record) {
-        return Place::Refused(Refusal::Unsound);
-    }
-    if !records::ordered(record) {
+    if !records::rows_ordered(record, head) {
         return Place::Refused(Refusal::Unordered);
     }
     if !shapes::good_index(index, head.rank) {

@@ -1,7 +1,7 @@
 -- `nnz`: how many positions are stored, by the kind of the record. Assumes nothing.
-use mathlib.Core.Path.{_≡_, refl, sym, ap, _∙_}
+use mathlib.Core.Path.{_≡_, sym, ap, _∙_}
 use mathlib.Core.List.{List}
-use Prim.Native.Nat.{ℕ, _-_, _<_, _≤_}
+use Prim.Native.Nat.{ℕ, _-_, _<_}
 use native.Mathlib.Omega.{arith}
 use borrow.Author.Tests.{ne-eqb}
 use lib.IntN.{ℤ}
@@ -13,9 +13,10 @@ use Rattle.rules.specs.Record.{layoutIn, shapeIn}
 use Rattle.rules.specs.CountsAndForms.{nnz}
 use Rattle.cells.specs.View.{view}
 use Rattle.tables.proofs.Rows.{length-rows}
+use Rattle.records.specs.Sound.{SoundRecord}
 use Rattle.records.proofs.Sections.{other-default}
-use Rattle.lookups.specs.Sound.{SoundRecord}
-use Rattle.lookups.proofs.SoundRecords.{layout-shown, layout-sound, lent-shape, lent-inside}
+use Rattle.records.proofs.SoundRecords.{layout-shown, layout-sound}
+use Rattle.lookups.proofs.SoundRecords.{lent-shape, lent-inside}
 
 -- a kind stands in the slice
 pub kind-inside : {h : Head} {s : List ℤ} → SoundRecord h s → 0 < length s

@@ -1,8 +1,8 @@
 -- `find` and `place_of`: an index is read, and its place is found by the kind of the record. Assumes nothing.
 use mathlib.Core.Path.{_≡_, refl, sym, ap, _∙_}
-use mathlib.Core.Bool.{Bool, true, false, not, _&&_}
-use mathlib.Core.List.{List, [], _∷_, _++_, map}
-use Prim.Native.Nat.{ℕ, zero, suc, _+_, _-_, _<_, _≤_, _^_}
+use mathlib.Core.Bool.{Bool, true, false, not}
+use mathlib.Core.List.{List, [], _∷_, map}
+use Prim.Native.Nat.{ℕ, zero, suc, _-_, _<_, _≤_, _^_}
 use native.Mathlib.Omega.{arith}
 use borrow.Author.Tests.{eqb-true, eq-eqb, leb-true, not-true, not-false}
 use lib.Dec.{eqb, leb}
@@ -24,26 +24,23 @@ use Rattle.rules.specs.Lookup.{readIndex, placeFrom, placeOf, lookup}
 use Rattle.rules.proofs.Buffers.{length-part}
 use Rattle.rules.proofs.Finding.{read-length, lookup-inside, place-dense, place-diagonal, place-sparse}
 use Rattle.rules.proofs.Same.{both-true}
+use Rattle.rules.proofs.Sections.{naturals-pos}
 use Rattle.rules.proofs.Sets.{Increasing, increasing-true}
 use Rattle.rules.proofs.Tests.{true-both}
-use Rattle.cells.specs.View.{view, Low}
+use Rattle.cells.specs.View.{view}
 use Rattle.cells.proofs.View.{view-length, view-pos}
 use Rattle.tables.specs.Rows.{rowAt, rowsAt, HasRow, HasRows}
-use Rattle.records.proofs.Layouts.{axes, seen, has-rows-there}
+use Rattle.records.specs.Sound.{SoundRecord}
+use Rattle.records.proofs.Layouts.{axes, has-rows-there}
 use Rattle.records.proofs.Low.{low-front}
-use Rattle.shapes.specs.Judged.{Judged}
+use Rattle.records.proofs.SoundRecords.{lies, layout-shown}
 use Rattle.shapes.proofs.Judging.{rank-counted}
 use Rattle.shapes.proofs.Reading.{length-naturals, natural-getD}
-use Rattle.lookups.specs.Sound.{SoundRecord, IndexRead}
-use Rattle.lookups.proofs.SoundRecords.{lies, layout-shown, shape-shown, shape-judged, lent-judged, lent-shape}
+use Rattle.lookups.specs.Indices.{IndexRead}
+use Rattle.lookups.proofs.SoundRecords.{shape-shown, shape-judged, lent-shape}
 use Rattle.lookups.proofs.Counting.{kind-read, kind-sparse}
 
 -- ---- natural numbers in a slice
-
-naturals-pos : (l : List ℕ) → naturals (map pos l) ≡ l
-unfolding natural
-naturals-pos [] = refl
-naturals-pos (x ∷ l) = ap (λ (t : List ℕ). x ∷ t) (naturals-pos l)
 
 -- a component that is read is one
 component-good : (z : ℤ) (t : Bool) → upTo componentLimit z ≡ true → upTo componentLimit (pos (if t 0 (natural z))) ≡ true

@@ -1,13 +1,12 @@
 -- `product`: the product of the extents before an axis. Assumes nothing.
 use mathlib.Core.Path.{_≡_, sym, _∙_}
-use mathlib.Core.Bool.{true}
-use mathlib.Core.List.{List, [], _∷_}
-use Prim.Native.Nat.{ℕ, zero, suc, _+_, _*_, _≤_, _<_, _^_}
-use native.Mathlib.Nat.{one-mul, mul-one, mul-assoc, mul-le-mul, mul-le-mul-left, mul-le-mul-right, le-mul-of-pos-right, le-trans, lt-of-le-of-lt}
+use mathlib.Core.List.{List, _∷_}
+use Prim.Native.Nat.{ℕ, _+_, _*_, _≤_, _<_}
+use native.Mathlib.Nat.{one-mul, mul-one, mul-assoc, mul-le-mul, mul-le-mul-left, le-mul-of-pos-right, le-trans, lt-of-le-of-lt}
 use native.Mathlib.Numerals.{add-one}
 use native.Mathlib.Omega.{arith}
 use borrow.Author.Tests.{leb-true}
-use lib.Dec.{eqb·suc-zero, lit<}
+use lib.Dec.{lit<}
 use lib.IntN.{ℤ}
 use lib.ListN.{length, getD, drop, drop-of-length-le}
 use lib.Seq.{drop-cons}
@@ -17,16 +16,9 @@ use Rattle.rules.specs.Limits.{productLimit}
 use Rattle.rules.specs.Lists.{product}
 use Rattle.rules.specs.Layout.{withinProduct}
 use Rattle.rules.specs.Record.{shapeIn}
-use Rattle.rules.proofs.Extents.{nonzeroProduct, nonzero-pos}
-use Rattle.shapes.specs.Judged.{Judged, factorOf}
-use Rattle.shapes.proofs.Products.{nonzero-cons}
+use Rattle.rules.proofs.Extents.{nonzeroProduct, nonzero-pos, nonzero-most}
+use Rattle.shapes.specs.Judged.{Judged}
 use Rattle.lookups.proofs.SoundRecords.{shape-within}
-
--- an extent is at most what it counts in a product that passes over zeros
-at-most-factor : (e : ℕ) → e ≤ factorOf e
-unfolding factorOf
-at-most-factor zero = omega arith
-at-most-factor (suc e) = rw (eqb·suc-zero e) (omega arith)
 
 -- the extents before an axis have a product, and it stays within the limit whatever else but zeros is multiplied in
 pub record Multiplied (shape : List ℤ) (axes axis all : ℕ) : Type 0 where
@@ -61,12 +53,10 @@ module _ {shape : List ℤ} {axes axis all : ℕ} (m : Multiplied shape axes axi
       let l : List ℕ = shapeIn shape in
       let inside : axis < length l = omega (arith, m .counted) in
       let next : drop axis l ≡ e ∷ drop (axis + 1) l = rw (add-one, f) (drop-cons l axis 1 inside) in
-      let rest : ℕ = nonzeroProduct (drop (axis + 1) l) in
-      let more : all * (e * rest) ≤ all * (factorOf e * rest) = mul-le-mul-left all (mul-le-mul-right rest (at-most-factor e)) in
       record {
         counted = m .counted;
         upto = omega arith;
-        limited = rw mul-assoc (le-trans more (rw (next, nonzero-cons) at (m .limited)));
+        limited = rw mul-assoc (le-trans (mul-le-mul-left all (nonzero-most e (drop (axis + 1) l))) (rw next at (m .limited)));
         eq = rw mul-assoc (rw next at (m .eq));
       }
 

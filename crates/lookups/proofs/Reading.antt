@@ -16,9 +16,9 @@ use Rattle.rules.specs.Record.{natural, naturals, shapeIn}
 use Rattle.rules.specs.Lookup.{readIndex}
 use Rattle.rules.proofs.Buffers.{over-nil, over-more}
 use Rattle.rules.proofs.Finding.{read-length}
+use Rattle.records.proofs.Passing.{Passed, none-passed, one-more, one-fails, all-passed}
 use Rattle.shapes.specs.Judged.{Judged}
 use Rattle.shapes.proofs.Judging.{rank-counted, rank-small}
-use Rattle.shapes.proofs.Passing.{AllFrom, all-start, all-turn, all-stop, all-done}
 use Rattle.shapes.proofs.Reading.{length-naturals, natural-there}
 
 -- ---- one component
@@ -153,30 +153,27 @@ pub ruleset belows = (inside-start, inside-turn, inside-stop, inside-done)
 
 -- the first k components are v
 pub record AllAre (index : List ℤ) (v k : ℕ) : Type 0 where
-  pub passed : AllFrom (eqb v) (naturals index) k
+  pub passed : Passed (eqb v) (length index) k (naturals index)
 
 -- before the first
 pub are-start : {index : List ℤ} {v : ℕ} → AllAre index v 0
-are-start = record { passed = all-start }
+are-start {index} = record { passed = none-passed (length-naturals index) }
 
 module _ {index : List ℤ} {v k : ℕ} (p : AllAre index v k) where
   module _ {x : ℕ} (h : k < length index) (f : x ≡ natural (getD index k (pos 0))) where
-    inside : k < length (naturals index)
-    inside = rw (length-naturals index) h
-
     tested : eqb v x ≡ eqb v (getD (naturals index) k 0)
     tested = ap (eqb v) (natural-there index k f)
 
     -- the next component is v
     pub are-turn : x ≡ v → AllAre index v (k + 1)
-    are-turn e = record { passed = all-turn (eqb v) (naturals index) k 0 (eqb v x) inside tested (p .passed) (eq-eqb v x (sym e)) }
+    are-turn e = record { passed = one-more (p .passed) 0 h tested (eq-eqb v x (sym e)) }
 
     -- the next component is another
     pub are-stop : (x ≡ v → ⊥) → false ≡ all (eqb v) (naturals index)
-    are-stop n = all-stop (eqb v) (naturals index) k 0 (eqb v x) inside tested (p .passed) (ne-eqb v x (λ (e : v ≡ x). n (sym e)))
+    are-stop n = one-fails (p .passed) 0 h tested (ne-eqb v x (λ (e : v ≡ x). n (sym e)))
 
   -- all are v
   pub are-done : length index ≤ k → true ≡ all (eqb v) (naturals index)
-  are-done h = all-done (p .passed) (rw (length-naturals index) h)
+  are-done h = all-passed (p .passed) h
 
 pub ruleset sames = (are-start, are-turn, are-stop, are-done)

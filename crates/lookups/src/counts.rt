@@ -3,8 +3,8 @@ ghost use mathlib.Core.Path.{_≡_};
 ghost use Rattle.rules.specs.Lists.{product};
 ghost use Rattle.rules.specs.Record.{shapeIn, layoutIn};
 ghost use Rattle.rules.specs.CountsAndForms.{nnz, minRankOf};
+ghost use Rattle.records.specs.Sound.{SoundRecord};
 ghost use Rattle.shapes.specs.Judged.{Judged};
-ghost use Rattle.lookups.specs.Sound.{SoundRecord};
 use rules::Head;
 
 // The product of the extents of a shape.

@@ -1,8 +1,8 @@
 -- `list_row`: the row with the first indices of the last axes behind it is in the table. Assumes nothing.
 use mathlib.Core.Path.{_≡_, refl, sym, _∙_}
 use mathlib.Core.Bool.{Bool, true, false}
-use mathlib.Core.List.{List, [], _∷_, _++_}
-use Prim.Native.Nat.{ℕ, zero, suc, _+_, _^_, _<_, _≤_}
+use mathlib.Core.List.{List, [], _++_}
+use Prim.Native.Nat.{ℕ, _+_, _^_, _<_, _≤_}
 use native.Mathlib.Omega.{arith}
 use lib.IntN.{ℤ}
 use lib.ListN.{length, getD, take, length-map, List·getD-eq-default}
@@ -20,15 +20,11 @@ use Rattle.cells.specs.View.{Low}
 use Rattle.tables.specs.Rows.{rowAt, HasRow}
 use Rattle.tables.specs.Tables.{Ready, Put}
 use Rattle.tables.proofs.Only.{row-outside}
+use Rattle.parts.proofs.Packing.{low-append}
 use Rattle.lowering.specs.Lowering.{lastAxes, TailAsked, withTails, Taken, RowAsked}
 use Rattle.lowering.proofs.Taking.{taken-none, taken-all, taken-next, taken-over}
 
 -- ---- numbers that are not negative
-
-pub low-append : (a b : List ℕ) → Low a → Low b → Low (a ++ b)
-low-append [] b f g k = g k
-low-append (x ∷ a) b f g zero = f 0
-low-append (x ∷ a) b f g (suc k) = low-append a b (λ j. f (suc j)) g k
 
 -- an index of a shape whose extents are small
 index-low : (axes : List ℕ) → ((k : ℕ) → getD axes k 0 ≤ productLimit) → (n : ℕ) → n < length (positions axes) → Low (getD (positions axes) n [])
@@ -100,7 +96,7 @@ module _ {from extents w rank size to : ℕ} {row s : List ℤ} where
       next-low =
           let inside : number < length (positions axes) = rw (positions-length, ← g .asked .size-is) h in
           let extent : (k : ℕ) → getD axes k 0 ≤ productLimit =
-          λ k. rw getD-drop (omega (arith, extent-nonzero (rowAt extents rank s) (w + k), g .asked .axes .small)) in
+          λ k. rw getD-drop (omega (arith, extent-nonzero (rowAt extents rank s) (w + k) 0 (omega arith), g .asked .axes .small)) in
           rw (is, g .row-is, shape-same) (low-append (rowAt from w s) (getD (positions axes) number []) (g .asked .row .low) (index-low axes extent number inside))
 
       pub full-row : length full ≡ 5 → HasRow 0 rank full

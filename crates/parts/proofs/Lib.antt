@@ -1,4 +1,4 @@
--- The laws that the proofs of parts share.
+-- Laws about parts: taken from a record, written as one, and the end of a call.
 pub mod Holds
 pub mod Loading
 pub mod Packing

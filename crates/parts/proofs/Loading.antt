@@ -1,24 +1,17 @@
 -- `load`: the sections of a record, each at its place in a part. Assumes nothing.
 use mathlib.Core.Path.{_≡_, sym, ap, _∙_}
-use mathlib.Core.Bool.{true}
 use mathlib.Core.List.{List}
 use mathlib.Core.Logic.{inl}
 use Prim.Native.Nat.{ℕ, _+_, _*_, _-_, _<_, _≤_}
 use native.Mathlib.Nat.{add-zero, mul-le-mul-right}
 use native.Mathlib.Omega.{arith}
 use lib.IntN.{ℤ}
-use lib.ListN.{length, getD, take}
-use lib.Signed.{nonNeg}
+use lib.ListN.{length, getD}
 use Rattle.rules.specs.declared.Head.{Head}
 use Rattle.rules.specs.declared.Entries.{Entries}
-use Rattle.rules.specs.declared.Walk.the-variants.{To}
 use Rattle.rules.specs.Buffers.{part, put}
-use Rattle.rules.specs.Lists.{all}
-use Rattle.rules.specs.Layout.{soundLayout}
-use Rattle.rules.specs.Record.{walk, sound, rowsOf, layoutBy, layoutIn}
+use Rattle.rules.specs.Record.{sound, rowsOf, layoutIn}
 use Rattle.rules.proofs.Buffers.{length-part, part-part, part-put-all}
-use Rattle.rules.proofs.Same.{both-true}
-use Rattle.rules.proofs.Soundness.{Sound, sound-true}
 use Rattle.cells.specs.View.{code, view}
 use Rattle.cells.proofs.View.{view-getD, view-part}
 use Rattle.tables.specs.Rows.{rowsAt}
@@ -28,7 +21,9 @@ use Rattle.tables.proofs.Tables.{table-rows}
 use Rattle.tables.proofs.Only.{only-then, only-wider, only-put, part-outside}
 use Rattle.records.specs.Sections.{Laid}
 use Rattle.records.specs.Judging.{Plain}
-use Rattle.records.proofs.Layouts.{axes, bounds, seen, layout-seen, has-states, has-inputs}
+use Rattle.records.specs.Sound.{SoundRecord}
+use Rattle.records.proofs.Layouts.{axes, seen, has-states, has-inputs}
+use Rattle.records.proofs.SoundRecords.{lies, layout-sound, layout-shown}
 use Rattle.parts.specs.Parts.{kindAt, denseAt, rankAt, layoutAt}
 use Rattle.parts.specs.Answers.{Loaded}
 
@@ -89,10 +84,14 @@ section-few {i} {w} {s} {e} l few = let k : e .count * w ≤ 128 * w = mul-le-mu
 section-size : {i w : ℕ} {s : List ℤ} {e : Entries} → Laid i w s e → (getD (view s) i 0 ≡ e .count) × (1 + e .count * w ≤ e .next - i)
 section-size {i} {w} {s} {e} l = (view-getD s i ∙ ap code (l .count), omega arith)
 
-module _ {h : Head} {s : List ℤ} (p : Plain h s) where
+module _ {h : Head} {s : List ℤ} (r : SoundRecord h s) where
+  -- the record is plain
+  p : Plain h s
+  p = r .plain
+
   pub places : Places h s
   places =
-      let b = bounds p in
+      let b = lies r in
       let rows = section-few (p .head .rows) (b .rows-few) in
       let states = section-few (p .head .states) (b .states-few) in
       let inputs = section-few (p .head .inputs) (b .inputs-few) in
@@ -106,16 +105,6 @@ module _ {h : Head} {s : List ℤ} (p : Plain h s) where
         inputs-few = omega arith;
         inside = b .end-in;
       }
-
-  -- the layout of the record is the one that its slice shows
-  layout-in : walk s ≡ To h → layoutIn s ≡ seen h s
-  unfolding layoutIn
-  layout-in e = rw e (layout-seen p)
-
-  -- a record that tests as sound has a sound layout
-  sound-in : walk s ≡ To h → sound s ≡ true → Sound (layoutIn s)
-  unfolding sound layoutIn
-  sound-in e t = rw e (sound-true (both-true (all nonNeg (take (h .inputs .next) s)) (soundLayout (layoutBy h s)) (rw e at t) .1))
 
   -- ---- the part after the four writes
 
@@ -210,14 +199,14 @@ module _ {h : Head} {s : List ℤ} (p : Plain h s) where
         let width : h .rank - getD (view s) 1 0 ≡ h .width = omega (arith, axes p) in
         rw (kind-there, dense-there, rank-there, width, shape-there, rows-there, states-there, inputs-there)
 
-    pub is-loaded : walk s ≡ To h → sound s ≡ true → Loaded at s t t₄
-    is-loaded e f =
-        let same : layoutAt at t₄ ≡ layoutIn s = layout-there ∙ sym (layout-in e) in
+    pub is-loaded : Loaded at s t t₄
+    is-loaded =
+        let same : layoutAt at t₄ ≡ layoutIn s = layout-there ∙ sym (layout-shown r) in
         record {
           layout = same;
           holds = record {
             inside = omega (arith, from-head .size);
-            sound = rw same (sound-in e f);
+            sound = rw same (layout-sound r);
             low = rw layout-there (record { states-low = has-states p .low; inputs-low = has-inputs p .low });
           };
           only = from-head;

@@ -2,17 +2,17 @@
 use mathlib.Core.Path.{_≡_, sym, ap, _∙_}
 use mathlib.Core.List.{List, [], _∷_, _++_, map}
 use Prim.Native.Nat.{ℕ, zero, suc, _+_, _*_, _-_, _^_, _<_, _≤_}
-use native.Mathlib.Nat.{suc-mul, zero-mul, mul-le-mul-right}
+use native.Mathlib.Nat.{mul-le-mul-right}
 use native.Mathlib.Numerals.{add-one}
 use native.Mathlib.Omega.{arith}
 use lib.IntN.{ℤ, pos}
 use lib.ListN.{length, getD, take, drop}
-use lib.Seq.{drop-cons, take-add}
+use lib.Seq.{drop-cons}
 use Rattle.rules.specs.Buffers.{part, put}
 use Rattle.rules.specs.Lists.{gather}
-use Rattle.rules.specs.Record.{rowsOf}
 use Rattle.rules.specs.Layout.{section}
 use Rattle.rules.proofs.Buffers.{length-part}
+use Rattle.rules.proofs.RowsRead.{gather-rows}
 use Rattle.rules.proofs.Sets.{Each, each-head, each-tail}
 use Rattle.cells.specs.View.{view, Low}
 use Rattle.cells.proofs.View.{view-length, view-part, low-view}
@@ -24,7 +24,7 @@ use Rattle.parts.specs.Answers.{numbersOf, TableStored}
 -- ---- low numbers
 
 -- two lists of low numbers, one behind the other
-low-append : (l m : List ℕ) → Low l → Low m → Low (l ++ m)
+pub low-append : (l m : List ℕ) → Low l → Low m → Low (l ++ m)
 low-append [] m p q k = q k
 low-append (x ∷ l) m p q zero = p 0
 low-append (x ∷ l) m p q (suc k) = low-append l m (λ i. p (suc i)) q k
@@ -46,14 +46,6 @@ low-gather (r ∷ t) p = low-append r (gather (λ e. e) t) (each-head p) (low-ga
 pub part-cons : (a n : ℕ) (l : List ℕ) → a < length l → part a (suc n) l ≡ getD l a 0 ∷ part (a + 1) n l
 unfolding part
 part-cons a n l h = rw (drop-cons l a 0, add-one)
-
--- the rows of a slice, one behind the other, are its first numbers
-gather-rows : (w n : ℕ) (l : List ℕ) → gather (λ e. e) (rowsOf w n l) ≡ take (n * w) l
-unfolding gather rowsOf
-gather-rows w zero l = rw zero-mul
-gather-rows w (suc n) l =
-    let e : suc n * w ≡ w + n * w = omega (arith, suc-mul n w) in
-    rw (e, take-add w (n * w) l, gather-rows w n (drop w l))
 
 -- numbers that are seen as low ones are those
 pub part-is : (a n : ℕ) (s : List ℤ) {l : List ℕ} → part a n (view s) ≡ l → Low l → part a n s ≡ map pos l

@@ -1,3 +1,3 @@
--- The definitions that the contracts of parts cite.
+-- What a part of the working buffer holds, and what is answered about it.
 pub mod Parts
 pub mod Answers

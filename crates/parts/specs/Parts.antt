@@ -1,6 +1,5 @@
 -- A layout in a part of the working buffer, in its open form: its sections stand at fixed places, so that tables grow where they are.
 --     0 kind, 1 D, 2 R, 3..6 extents, 7 count of rows, 8..519 rows, 520 count of states, 521..1160 states, 1161 count of inputs, 1162..1801 inputs
-use mathlib.Core.Path.{_≡_}
 use mathlib.Core.Logic.{_⊎_}
 use mathlib.Core.List.{List}
 use Prim.Native.Nat.{ℕ, _+_, _-_, _≤_}

@@ -1,14 +1,11 @@
 // Layouts in parts of the working buffer: taken from a record, written as one, and the end of a call.
 ghost use mathlib.Core.Path.{_≡_};
-ghost use mathlib.Core.Bool.{true};
 ghost use Prim.Native.Nat.{_+_, _-_, _≤_};
 ghost use lib.ListN.{length};
 ghost use Rattle.rules.specs.declared.Step.the-variants.{Done};
-ghost use Rattle.rules.specs.declared.Walk.the-variants.{To};
 ghost use Rattle.rules.specs.Buffers.{part, over, put, zeros};
-ghost use Rattle.rules.specs.Record.{walk, sound};
 ghost use Rattle.tables.specs.Tables.{roomEnd, Fits};
-ghost use Rattle.records.specs.Judging.{Plain};
+ghost use Rattle.records.specs.Sound.{SoundRecord};
 ghost use Rattle.parts.specs.Parts.{Holds};
 ghost use Rattle.parts.specs.Answers.{Loaded, TableStored, Stored, Finished};
 use rules::Head;
@@ -26,7 +23,7 @@ fn load_part(from: &[i32], a: usize, e: usize, work: &mut [i32], to: usize)
 
 // The layout of a sound record goes into the part at a place, section by section.
 pub fn load(from: &[i32], head: Head, work: &mut [i32], at: usize)
-    requires { ⌜ (walk (now from) ≡ To head) × (sound (now from) ≡ true) × Plain head (now from) ⌝ }
+    requires { ⌜ SoundRecord head (now from) ⌝ }
     requires { ⌜ at + 1802 ≤ length (now work) ⌝ }
     ensures { λ _. ⌜ Loaded at (now (from .entry)) (now (work .entry)) (now (work .exit)) ⌝ }
 {

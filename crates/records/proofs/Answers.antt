@@ -1,4 +1,4 @@
--- `sound_by`, `sound`, `ordered` and `row`: what is answered about a record. Assumes nothing.
+-- `sound_by` and `row`: what is answered about a record. Assumes nothing.
 use mathlib.Core.Path.{_≡_, refl, sym, ap, _∙_}
 use mathlib.Core.Bool.{Bool, true, false, not, and-false}
 use mathlib.Core.List.{List, [], map}
@@ -14,31 +14,25 @@ use Rattle.rules.specs.declared.Walk.{Walk}
 use Rattle.rules.specs.declared.Walk.the-variants.{To, Broken}
 use Rattle.rules.specs.Lists.{all}
 use Rattle.rules.specs.Buffers.{part}
-use Rattle.rules.specs.RowsInOrder.{increasing}
 use Rattle.rules.specs.Layout.{wellFormed, withinSizes, soundLayout}
-use Rattle.rules.specs.Record.{walk, natural, rowsOf, entriesOf, layoutBy, layoutIn, soundFrom, sound, ordered, rowPart, row}
+use Rattle.rules.specs.Record.{natural, entriesOf, layoutBy, soundFrom, sound, rowPart, row}
 use Rattle.rules.proofs.Same.{true-not-false}
 use Rattle.rules.proofs.Buffers.{length-part}
+use Rattle.rules.proofs.RowsRead.{rows-length}
 use Rattle.cells.specs.declared.Sign.{Sign}
 use Rattle.cells.specs.declared.Sign.the-variants.{Natural, Negative}
 use Rattle.cells.specs.View.{view, Low, signOf}
 use Rattle.cells.proofs.Signed.{held, back}
-use Rattle.tables.specs.Rows.{rowsAt, HasRows}
 use Rattle.records.specs.Heads.{HeadOf}
-use Rattle.records.specs.Judging.{Plain, PlainRecord, fewEntries}
-use Rattle.records.proofs.Sections.{sign-natural}
-use Rattle.records.proofs.Walks.{walked-head, one-head}
+use Rattle.records.specs.Judging.{Plain, fewEntries}
+use Rattle.records.specs.Sound.{SoundRecord, soundHead}
+use Rattle.records.proofs.Sections.{sign-natural, sign-negative}
 use Rattle.records.proofs.RowTests.{row-room}
 use Rattle.records.proofs.InTurn.{first-fails, first-holds}
-use Rattle.records.proofs.Layouts.{rows-room, layout-seen, has-rows-there}
+use Rattle.records.proofs.Layouts.{rows-room}
+use Rattle.records.proofs.SoundRecords.{plain-head, sound-record, no-head}
 
 -- ---- a record of too many entries is not sound
-
--- there are as many rows as asked for
-rows-length : (w n : ℕ) (l : List ℕ) → length (rowsOf w n l) ≡ n
-unfolding rowsOf
-rows-length w zero l = refl
-rows-length w (suc n) l = ap suc (rows-length w n (drop w l))
 
 -- too many entries are counted as too many
 entries-many : (w n : ℕ) (l : List ℕ) → leb n 128 ≡ false → leb (length (entriesOf w n l)) 128 ≡ false
@@ -114,64 +108,6 @@ module _ (h : Head) (s : List ℤ) {t : Bool} (e : t ≡ all nonNeg (take (h .in
 
 pub ruleset judged = (too-many, is-plain, is-negative, is-deformed, by-size)
 
--- ---- any record: `sound`
-
-module _ (s : List ℤ) {r : Walk} (e : r ≡ walk s) where
-  -- it cannot be walked
-  pub sound-broken : r ≡ Broken → false ≡ sound s
-  unfolding sound
-  sound-broken f = rw (sym e ∙ f)
-
-  module _ {h : Head} (f : r ≡ To h) where
-    -- the head that was read is its head
-    pub head-read : HeadOf h s
-    head-read = walked-head s (sym e ∙ f)
-
-    -- it is sound by that head
-    pub sound-walked : {t : Bool} → t ≡ soundFrom (To h) s → t ≡ sound s
-    unfolding sound
-    sound-walked q = rw (sym e ∙ f) q
-
-    -- and plain, if it is plain by that head
-    pub plain-record : Plain h s → PlainRecord s
-    plain-record p k q = rw (one-head (sym q ∙ sym e ∙ f)) p
-
-pub ruleset walked = (sound-broken, head-read, sound-walked)
-
--- ---- its order: `ordered`
-
-module _ (s : List ℤ) {t : Bool} (e : t ≡ sound s) where
-  -- it is not sound
-  pub unsound-order : not t ≡ true → false ≡ ordered s
-  unfolding ordered
-  unsound-order f = first-fails (increasing (layoutIn s .rows)) e f
-
-  -- it cannot be walked
-  pub broken-order : {r : Walk} → r ≡ walk s → r ≡ Broken → false ≡ ordered s
-  unfolding ordered
-  broken-order q f = rw (← sound-broken s q f)
-
-module _ (s : List ℤ) {t : Bool} {r : Walk} {h : Head} (p : t ≡ true → PlainRecord s) (f : not t ≡ false) (q : r ≡ walk s) (g : r ≡ To h) where
-  -- a sound record is plain
-  pub sound-plain : Plain h s
-  sound-plain = p (not-false t f) h (sym q ∙ g)
-
-  -- so its rows are rows of the slice
-  pub sound-rows : HasRows (h .rows .first) (h .width) (h .rows .count) s
-  sound-rows = has-rows-there sound-plain
-
-  -- and they are the rows of its layout
-  rows-read : layoutIn s .rows ≡ rowsAt (h .rows .first) (h .width) (h .rows .count) s
-  unfolding layoutIn
-  rows-read = rw (sym q ∙ g, layout-seen sound-plain)
-
-  -- so their order is its order
-  pub rows-order : {u : Bool} → t ≡ sound s → u ≡ increasing (rowsAt (h .rows .first) (h .width) (h .rows .count) s) → u ≡ ordered s
-  unfolding ordered
-  rows-order e d = d ∙ rw (← rows-read) (sym (first-holds e f))
-
-pub ruleset orders = (unsound-order, broken-order, sound-rows, rows-order)
-
 -- ---- a row of it: `row_of` and `row`
 
 module _ {h : Head} {s : List ℤ} (p : Plain h s) (i : ℕ) where
@@ -201,18 +137,13 @@ no-row-there s (negsuc i) e = refl
 
 -- a negative number asks for none
 no-row-negative : (s : List ℤ) (z : ℤ) → signOf z ≡ Negative → [] ≡ row s z
-unfolding row signOf
-no-row-negative s (pos i) e = cc
-no-row-negative s (negsuc i) e = refl
+unfolding row
+no-row-negative s z e = rw (sign-negative z e)
 
 module _ (s : List ℤ) (z : ℤ) where
   -- the record is not sound
-  pub unsound-row : {t : Bool} → t ≡ sound s → not t ≡ true → [] ≡ row s z
-  unsound-row {t} e f = no-row-there s z (sym e ∙ not-true t f)
-
-  -- it cannot be walked
-  pub broken-row : {r : Walk} → r ≡ walk s → r ≡ Broken → [] ≡ row s z
-  broken-row e f = no-row-there s z (sym (sound-broken s e f))
+  pub unsound-row : {r : Walk} → r ≡ soundHead s → r ≡ Broken → [] ≡ row s z
+  unsound-row e f = no-row-there s z (no-head s e f)
 
   module _ {g : Sign} (small : mag z < 2 ^ 31) (e : g ≡ signOf (held z)) where
     -- the sign of the number that was asked for
@@ -224,9 +155,8 @@ module _ (s : List ℤ) (z : ℤ) where
     negative-row f = no-row-negative s z (asked ∙ f)
 
     -- it is natural
-    pub found-row : {t : Bool} {r : Walk} {h : Head} {i : ℕ} {l : List ℤ} → g ≡ Natural i → t ≡ sound s → not t ≡ false → r ≡ walk s → r ≡ To h →
-        l ≡ rowPart i (To h) s → l ≡ row s z
+    pub found-row : {h : Head} {i : ℕ} {l : List ℤ} → SoundRecord h s → g ≡ Natural i → l ≡ rowPart i (To h) s → l ≡ row s z
     unfolding row
-    found-row {t} f d k q w m = m ∙ rw (sign-natural z (asked ∙ f), ← d, not-false t k, sym q ∙ w)
+    found-row r f m = m ∙ rw (sign-natural z (asked ∙ f), r .judged, r .walked)
 
-pub ruleset rows = (unsound-row, broken-row, negative-row, found-row, sound-plain)
+pub ruleset rows = (plain-head, sound-record, unsound-row, negative-row, found-row)

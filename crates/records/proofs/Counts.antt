@@ -1,11 +1,11 @@
 -- `few_entries` and `over_record`: counts against their limits. Assumes nothing.
-use mathlib.Core.Path.{_≡_, refl, sym, ap, _∙_}
+use mathlib.Core.Path.{_≡_, sym, ap, _∙_}
 use mathlib.Core.Bool.{false}
 use mathlib.Core.List.{List}
 use Prim.Native.Nat.{ℕ, _<_, _≤_}
 use borrow.Author.Tests.{le-leb, lt-leb}
 use lib.Dec.{leb, ltb}
-use lib.IntN.{ℤ, pos, negsuc}
+use lib.IntN.{ℤ, pos}
 use lib.ListN.{length, getD, List·getD-eq-default}
 use Rattle.rules.specs.declared.Head.{Head}
 use Rattle.rules.specs.Record.{natural}
@@ -14,15 +14,9 @@ use Rattle.cells.specs.declared.Sign.{Sign}
 use Rattle.cells.specs.declared.Sign.the-variants.{Natural, Negative}
 use Rattle.cells.specs.View.{signOf}
 use Rattle.records.specs.Judging.{fewEntries}
-use Rattle.records.proofs.Sections.{sign-natural}
+use Rattle.records.proofs.Sections.{sign-natural, sign-negative}
 
 -- ---- over the rank
-
--- a negative number is not over it
-negative-rank : (z : ℤ) → signOf z ≡ Negative → false ≡ overRank z
-unfolding signOf natural
-negative-rank (pos n) e = cc
-negative-rank (negsuc n) e = refl
 
 module _ (s : List ℤ) where
   -- no rank stands in the slice
@@ -37,7 +31,8 @@ module _ (s : List ℤ) where
 
   -- a negative rank
   pub rank-negative : {g : Sign} → g ≡ signOf (getD s 2 (pos 0)) → g ≡ Negative → false ≡ overRecord s
-  rank-negative e f = negative-rank (getD s 2 (pos 0)) (sym e ∙ f)
+  unfolding natural
+  rank-negative e f = sym (ap overRank (sign-negative (getD s 2 (pos 0)) (sym e ∙ f)))
 
 pub ruleset ranks = (no-rank, rank-read, rank-negative)
 

@@ -4,7 +4,9 @@
 --     Numbers, Counts, Below, Products       tests of numbers
 --     RowTests, KindTests                    tests of rows, and of kinds
 --     Low, Layouts, Conjuncts, Soundness     a plain record, its layout, and its soundness
+--     SoundRecords                           a record that was judged
 --     Answers                                what is answered about any record
+--     EndToEnd                               things end to end, walked from one to the next
 pub mod Sections
 pub mod Walks
 pub mod InTurn
@@ -19,4 +21,6 @@ pub mod KindTests
 pub mod Layouts
 pub mod Conjuncts
 pub mod Soundness
+pub mod SoundRecords
 pub mod Answers
+pub mod EndToEnd

@@ -6,12 +6,13 @@ use native.Mathlib.Nat.{suc-mul, min-eq-left}
 use native.Mathlib.Omega.{arith}
 use lib.IntN.{ℤ, pos, negsuc}
 use lib.ListN.{length, getD, take, drop, replicate, length-take, List·getD-eq-default}
-use lib.Seq.{take-take, getD-take, getD-drop}
+use lib.Seq.{getD-take, getD-drop}
 use Rattle.rules.specs.declared.Entries.{Entries}
 use Rattle.rules.specs.Buffers.{part}
 use Rattle.rules.specs.Record.{natural, naturals, rowsOf, entriesOf, entriesIn}
+use Rattle.rules.proofs.RowsRead.{naturals-take}
 use Rattle.rules.proofs.Order.{ComparedNumbers, under, even, above, compareNumbers}
-use Rattle.rules.proofs.Buffers.{part-take}
+use Rattle.rules.proofs.RowsRead.{naturals-take, rows-cut}
 use Rattle.rules.proofs.Sets.{Each, each-nil, each-cons}
 use Rattle.cells.specs.View.{code, view, Low}
 use Rattle.cells.proofs.View.{view-part}
@@ -39,16 +40,6 @@ low-part a m n l h f =
     (λ k i. let inside : a + k < n = omega arith in rw (getD-drop a l k 0, ← getD-take n l (a + k) 0 inside) (f (a + k)))
 
 -- ---- rows
-
--- the front of rows' numbers is all that they are made of
-rows-front : (w n : ℕ) (l : List ℕ) → rowsOf w n l ≡ rowsOf w n (take (n * w) l)
-unfolding rowsOf
-rows-front w zero l = refl
-rows-front w (suc n) l =
-    let size : suc n * w ≡ w + n * w = omega (arith, suc-mul n w) in
-    let enough : w ≤ w + n * w = omega arith in
-    let rest : take (n * w) (drop w l) ≡ drop w (take (w + n * w) l) = unfold part in part-take w (n * w) l in
-    rw (size, take-take w (w + n * w) l enough, ← rest) (ap (λ (t : List (List ℕ)). take w l ∷ t) (rows-front w n (drop w l)))
 
 -- rows of low numbers are low
 rows-low : (w n : ℕ) (l : List ℕ) → Low (take (n * w) l) → Each Low (rowsOf w n l)
@@ -83,12 +74,6 @@ naturals-part a m size s h f = naturals-view (part a m s) (rw (view-part a m s) 
 
 -- ---- entries
 
--- the front of naturals
-naturals-take : (n : ℕ) (l : List ℤ) → take n (naturals l) ≡ naturals (take n l)
-naturals-take zero l = refl
-naturals-take (suc n) [] = refl
-naturals-take (suc n) (z ∷ l) = ap (λ (t : List ℕ). natural z ∷ t) (naturals-take n l)
-
 -- rows of no numbers
 rows-empty : (n : ℕ) (l : List ℕ) → rowsOf 0 n l ≡ replicate n []
 unfolding rowsOf
@@ -110,4 +95,4 @@ entries-seen w size e s k h f =
     let same : take m (naturals (drop (e .first) s)) ≡ take m (drop (e .first) (view s))
     = naturals-take m (drop (e .first) s) ∙ (unfold part in naturals-part (e .first) m size s h f) in
     entries-rows w (e .count) (naturals (drop (e .first) s)) k
-    ∙ rows-front w (e .count) (naturals (drop (e .first) s)) ∙ ap (rowsOf w (e .count)) same ∙ sym (rows-front w (e .count) (drop (e .first) (view s)))
+    ∙ sym (rows-cut w (e .count) (naturals (drop (e .first) s))) ∙ ap (rowsOf w (e .count)) same ∙ rows-cut w (e .count) (drop (e .first) (view s))

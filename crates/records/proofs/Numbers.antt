@@ -7,7 +7,7 @@ use native.Mathlib.Omega.{arith}
 use borrow.Author.Count.{below-none, below-more}
 use borrow.Author.Tests.{le-leb, lt-leb, eq-eqb, not-true, not-false}
 use lib.Dec.{eqb}
-use lib.IntN.{ℤ, pos, negsuc}
+use lib.IntN.{ℤ, pos}
 use lib.ListN.{length, getD, take}
 use lib.Seq.{length-take-le, getD-take}
 use lib.Signed.{nonNeg}
@@ -20,27 +20,19 @@ use Rattle.cells.specs.View.{code, view, Low, signOf, sizeOf}
 use Rattle.cells.proofs.View.{view-getD}
 use Rattle.tables.proofs.Rows.{row-length, row-number}
 use Rattle.records.specs.Judging.{small}
-use Rattle.records.proofs.Sections.{sign-natural, size-natural}
+use Rattle.records.proofs.Sections.{sign-natural, sign-negative, size-natural}
 use Rattle.records.proofs.Low.{low-front}
 use Rattle.records.proofs.Passing.{Passed, none-passed, one-more, one-fails, all-passed}
 
 -- ---- none is negative
 
 -- a natural number passes
-natural-passes : (z : ℤ) {m : ℕ} → signOf z ≡ Natural m → nonNeg z ≡ true
-unfolding signOf
-natural-passes (pos n) e = refl
-natural-passes (negsuc n) e = cc
+pub natural-passes : (z : ℤ) {m : ℕ} → signOf z ≡ Natural m → nonNeg z ≡ true
+natural-passes z e = rw (sign-natural z e)
 
 -- a negative one does not
-negative-fails : (z : ℤ) → signOf z ≡ Negative → nonNeg z ≡ false
-unfolding signOf
-negative-fails (pos n) e = cc
-negative-fails (negsuc n) e = refl
-
--- a natural number is its code
-natural-code : {z : ℤ} {m : ℕ} → z ≡ pos m → code z ≡ m
-natural-code e = ap code e
+pub negative-fails : (z : ℤ) → signOf z ≡ Negative → nonNeg z ≡ false
+negative-fails z e = rw (sign-negative z e)
 
 -- the first k of n numbers are natural and small
 pub record NaturalUpTo (n k : ℕ) (s : List ℤ) : Type 0 where
@@ -61,15 +53,15 @@ module _ {n k : ℕ} {s : List ℤ} (p : NaturalUpTo n k s) where
     pub natural-more : {m : ℕ} → g ≡ Natural m → sizeOf g < 2 ^ 31 → NaturalUpTo n (k + 1) s
     natural-more {m} f l =
         let size = size-natural l f in
-        let is = view-getD s k ∙ natural-code (sign-natural (getD s k (pos 0)) (sym e ∙ f)) in
+        let is = view-getD s k ∙ ap code (sign-natural (getD s k (pos 0)) (sym e ∙ f)) in
         record {
-          passed = one-more (p .passed) (pos 0) h (natural-passes (getD (take n s) k (pos 0)) (signed ∙ f));
+          passed = one-more (p .passed) (pos 0) h refl (natural-passes (getD (take n s) k (pos 0)) (signed ∙ f));
           low = below-more _ _ (p .low) (omega (arith, is, size));
         }
 
     -- the next number is negative
     pub natural-fails : g ≡ Negative → false ≡ all nonNeg (take n s)
-    natural-fails f = one-fails (p .passed) (pos 0) h (negative-fails (getD (take n s) k (pos 0)) (signed ∙ f))
+    natural-fails f = one-fails (p .passed) (pos 0) h refl (negative-fails (getD (take n s) k (pos 0)) (signed ∙ f))
 
   -- all are natural
   pub all-natural : n ≤ k → true ≡ all nonNeg (take n s)
@@ -90,16 +82,16 @@ module _ {test : ℕ → Bool} (a n : ℕ) (s : List ℤ) where
 
   module _ {k x : ℕ} (p : Passed test n k (part a n (view s))) (h : k < n) (e : x ≡ getD (view s) (a + k) 0) where
     -- number k of the part is the one that was read
-    tested : {t : Bool} → test x ≡ t → test (getD (part a n (view s)) k 0) ≡ t
-    tested q = rw (row-number a n k s h, ← e) q
+    tested : test x ≡ test (getD (part a n (view s)) k 0)
+    tested = rw (row-number a n k s h, ← e)
 
     -- it passes
     pub part-more : test x ≡ true → Passed test n (k + 1) (part a n (view s))
-    part-more q = one-more p 0 h (tested q)
+    part-more q = one-more p 0 h tested q
 
     -- it does not pass
     pub part-fails : test x ≡ false → false ≡ all test (part a n (view s))
-    part-fails q = one-fails p 0 h (tested q)
+    part-fails q = one-fails p 0 h tested q
 
 -- ---- each is small
 

@@ -5,6 +5,7 @@ use mathlib.Core.List.{List}
 use Prim.Native.Nat.{ℕ, _+_, _<_, _≤_}
 use native.Mathlib.Numerals.{add-one}
 use native.Mathlib.Omega.{arith}
+use borrow.Author.Tests.{not-true, not-false}
 use lib.ListN.{length, getD, drop, drop-of-length-le}
 use lib.Seq.{drop-cons}
 use Rattle.rules.specs.Lists.{all}
@@ -21,20 +22,23 @@ module _ {A : Type 0} {test : A → Bool} {n : ℕ} {l : List A} where
   none-passed e = record { upto = omega arith; size = e; eq = refl }
 
   module _ {k : ℕ} (p : Passed test n k l) where
-    -- the next element decides, and those behind it
-    next : (d : A) → k < n → all test l ≡ test (getD l k d) && all test (drop (k + 1) l)
-    unfolding all
-    next d h = let inside : k < length l = omega arith in p .eq ∙ rw (add-one, drop-cons l k d)
+    module _ (d : A) {b : Bool} (h : k < n) (e : b ≡ test (getD l k d)) where
+      -- the next element decides, and those behind it
+      next : all test l ≡ b && all test (drop (k + 1) l)
+      unfolding all
+      next = let inside : k < length l = omega arith in p .eq ∙ rw (add-one, drop-cons l k d, e)
 
-    -- it passes
-    pub one-more : (d : A) → k < n → test (getD l k d) ≡ true → Passed test n (k + 1) l
-    one-more d h e = record { upto = omega arith; size = p .size; eq = next d h ∙ rw e }
+      -- it passes
+      pub one-more : b ≡ true → Passed test n (k + 1) l
+      one-more f = record { upto = omega arith; size = p .size; eq = next ∙ rw f }
 
-    -- it does not pass
-    pub one-fails : (d : A) → k < n → test (getD l k d) ≡ false → false ≡ all test l
-    one-fails d h e = sym (next d h ∙ rw e)
+      -- it does not pass
+      pub one-fails : b ≡ false → false ≡ all test l
+      one-fails f = sym (next ∙ rw f)
 
     -- all have passed
     pub all-passed : n ≤ k → true ≡ all test l
     unfolding all
     all-passed h = sym (p .eq ∙ rw (drop-of-length-le l {i = k} (omega arith)))
+
+pub ruleset passing = (none-passed, one-more, one-fails, all-passed, not-true, not-false)

@@ -30,16 +30,16 @@ module _ {test : List ℕ → Bool} (a w n : ℕ) (s : List ℤ) where
 
   module _ {i : ℕ} {t : Bool} (p : Passed test n i (rowsAt a w n s)) (h : i < n) (e : t ≡ test (rowAt (a + i * w) w s)) where
     -- row i stands i rows on
-    tested : {b : Bool} → t ≡ b → test (getD (rowsAt a w n s) i []) ≡ b
-    tested q = rw (row-of a w n s i h) (sym e ∙ q)
+    tested : t ≡ test (getD (rowsAt a w n s) i [])
+    tested = rw (row-of a w n s i h) e
 
     -- it passes
     pub rows-more : not t ≡ false → Passed test n (i + 1) (rowsAt a w n s)
-    rows-more q = one-more p [] h (tested (not-false t q))
+    rows-more q = one-more p [] h tested (not-false t q)
 
     -- it does not pass
     pub rows-fail : not t ≡ true → false ≡ all test (rowsAt a w n s)
-    rows-fail q = one-fails p [] h (tested (not-true t q))
+    rows-fail q = one-fails p [] h tested (not-true t q)
 
 -- ---- components below the extents
 

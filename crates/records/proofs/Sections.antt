@@ -1,20 +1,20 @@
 -- A section by what stands at its count, and what a whole one says. Assumes nothing.
 use mathlib.Core.Path.{_≡_, refl, sym, ap, _∙_}
-use mathlib.Core.Bool.{Bool, true, false}
 use mathlib.Core.List.{List, [], _∷_}
 use Prim.Native.Nat.{ℕ, zero, suc, _+_, _-_, _*_, _^_, _<_, _≤_}
 use native.Mathlib.Omega.{arith}
 use native.Mathlib.Nat.{lt-of-le-of-lt, le-of-lt, mul-le-mul}
-use borrow.Author.Tests.{le-leb, lt-leb, leb-true}
-use lib.Dec.{leb, lit<}
+use borrow.Author.Tests.{le-leb, lt-leb}
+use lib.Dec.{lit<}
 use lib.IntN.{ℤ, pos, negsuc}
 use lib.ListN.{length, getD, List·getD-eq-default}
+use lib.Signed.{mag}
 use mir.Syntax.{w64}
 use mir.Val.{Fits}
 use Rattle.rules.specs.declared.Entries.{Entries}
 use Rattle.rules.specs.declared.Section.the-variants.{Whole, Cut}
-use Rattle.rules.specs.Lists.{if}
 use Rattle.rules.specs.Record.{entriesFrom, sectionAt}
+use Rattle.rules.proofs.Walked.{Lies, lies}
 use Rattle.cells.specs.declared.Sign.{Sign}
 use Rattle.cells.specs.declared.Sign.the-variants.{Natural, Negative}
 use Rattle.cells.specs.View.{signOf, sizeOf}
@@ -34,6 +34,12 @@ unfolding signOf
 sign-natural (pos m) e = cc
 sign-natural (negsuc m) e = cc
 
+-- one whose sign is negative
+pub sign-negative : (z : ℤ) → signOf z ≡ Negative → z ≡ negsuc (mag z)
+unfolding signOf
+sign-negative (pos n) e = cc
+sign-negative (negsuc n) e = refl
+
 -- a count that was read is small
 pub size-natural : {g : Sign} {n b : ℕ} → sizeOf g < b → g ≡ Natural n → n < b
 size-natural h e = rw e at h
@@ -46,9 +52,8 @@ product-fits h e k = record { fits = lt-of-le-of-lt (mul-le-mul (le-of-lt (size-
 
 -- by a negative count nothing is there
 negative-count : (size w f : ℕ) (z : ℤ) → signOf z ≡ Negative → entriesFrom size w f z ≡ Cut
-unfolding signOf entriesFrom
-negative-count size w f (pos n) e = cc
-negative-count size w f (negsuc n) e = refl
+unfolding entriesFrom
+negative-count size w f z e = rw (sign-negative z e)
 
 module _ (i : ℕ) (s : List ℤ) where
   -- no count stands past the end
@@ -89,21 +94,13 @@ module _ (i : ℕ) (s : List ℤ) where
 
 -- ---- what a whole section says
 
--- entries that are whole by a test passed it
-passed : (t : Bool) {e f : Entries} → if t (Whole e) Cut ≡ Whole f → (t ≡ true) × (e ≡ f)
-passed true p = (refl, cc)
-passed false p = (cc, cc)
-
 -- it lies in the slice
+pub laid : {i w : ℕ} {s : List ℤ} {e : Entries} → Lies i w s e → Laid i w s e
+laid {i} {s = s} l =
+    let inside : i < length s = omega arith in
+    record { at = inside; count = other-default s i (pos 0) (negsuc 0) inside ∙ l .count; first = l .first; next = omega arith; room = l .room }
+
 pub section-laid : (i w : ℕ) (s : List ℤ) {e : Entries} → sectionAt i w s ≡ Whole e → Laid i w s e
-unfolding sectionAt entriesFrom
-section-laid i w s {e} p = by (getD s i (negsuc 0)) refl p
-  where
-    by : (z : ℤ) → getD s i (negsuc 0) ≡ z → entriesFrom (length s) w (i + 1) z ≡ Whole e → Laid i w s e
-    by (pos n) f q =
-        let t = passed (leb (i + 1 + n * w) (length s)) q in
-        let room = leb-true (i + 1 + n * w) (length s) (t .0) in
-        rw (← t .1) (record { at = omega arith; count = other-default s i (pos 0) (negsuc 0) (omega arith) ∙ f; first = refl; next = refl; room = room })
-    by (negsuc n) f q = absurd (let z : _≡_ {A = ℕ} 0 1 = cc q in omega arith)
+section-laid i w s {e} p = laid (lies i w s e p)
 
 pub ruleset laws = (product-fits, size-natural, cut-outside, cut-negative, cut-long, whole-section, entries-lie)

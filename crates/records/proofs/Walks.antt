@@ -1,9 +1,9 @@
 -- A record walked section by section: where it breaks, and what it is when it was walked to its end. Assumes nothing.
-use mathlib.Core.Path.{_≡_, refl, sym, ap, _∙_}
+use mathlib.Core.Path.{_≡_, sym, ap, _∙_}
 use mathlib.Core.List.{List}
 use Prim.Native.Nat.{ℕ, _+_, _^_, _<_}
 use native.Mathlib.Omega.{arith}
-use lib.IntN.{ℤ, pos, negsuc, _-ℤ_}
+use lib.IntN.{ℤ, pos, _-ℤ_}
 use lib.ListN.{length, getD}
 use lib.Signed.{mag}
 use mir.Syntax.{w64}
@@ -12,16 +12,16 @@ use Rattle.rules.specs.declared.Entries.{Entries}
 use Rattle.rules.specs.declared.Section.{Section}
 use Rattle.rules.specs.declared.Section.the-variants.{Whole, Cut}
 use Rattle.rules.specs.declared.Head.{Head}
-use Rattle.rules.specs.declared.Walk.{Walk}
 use Rattle.rules.specs.declared.Walk.the-variants.{To, Broken}
-use Rattle.rules.specs.Record.{after, widthBy, sectionAt, walk}
+use Rattle.rules.specs.Record.{sectionAt, walk}
+use Rattle.rules.proofs.Walked.{walked as record-walked}
 use Rattle.cells.specs.declared.Sign.{Sign}
 use Rattle.cells.specs.declared.Sign.the-variants.{Natural, Negative}
 use Rattle.cells.specs.View.{signOf}
 use Rattle.cells.proofs.Signed.{held, back}
 use Rattle.records.specs.Sections.{Laid, SectionIn}
 use Rattle.records.specs.Heads.{HeadOf}
-use Rattle.records.proofs.Sections.{sign-natural, size-natural, section-laid}
+use Rattle.records.proofs.Sections.{sign-natural, sign-negative, size-natural, laid}
 
 -- ---- a section that was read
 
@@ -45,12 +45,6 @@ module _ (i w : ℕ) (s : List ℤ) {g : Section} {e : Entries} (h : SectionIn i
   -- its count stands in the slice
   pub count-inside : i < length s
   count-inside = whole-lies i w s h f .0 .at
-
--- a number whose sign is negative
-sign-negative : (z : ℤ) → signOf z ≡ Negative → z ≡ negsuc (mag z)
-unfolding signOf
-sign-negative (pos n) e = cc
-sign-negative (negsuc n) e = refl
 
 -- ---- where a record breaks
 
@@ -101,56 +95,20 @@ module _ (s : List ℤ) {g : Section} (a : g ≡ sectionAt 2 1 s) where
 
 -- ---- what a walked record says
 
--- a walk that goes on behind a section
-record Past (g : Section) (next : Entries → Walk) (h : Head) : Type 0 where
-  entries : Entries
-  is : g ≡ Whole entries
-  goes : next entries ≡ To h
-
--- a walk that goes on with a width
-record Wide (z : ℤ) (next : ℕ → Walk) (h : Head) : Type 0 where
-  width : ℕ
-  is : z ≡ pos width
-  goes : next width ≡ To h
-
--- a walk to the end goes on behind each section
-past : (g : Section) (next : Entries → Walk) {h : Head} → after g next ≡ To h → Past g next h
-past (Whole e) next p = record { entries = e; is = refl; goes = p }
-past Cut next p = absurd (let z : _≡_ {A = ℕ} 0 1 = cc p in omega arith)
-
--- and has a width
-wide-enough : (z : ℤ) (next : ℕ → Walk) {h : Head} → widthBy z next ≡ To h → Wide z next h
-wide-enough (pos w) next p = record { width = w; is = refl; goes = p }
-wide-enough (negsuc n) next p = absurd (let z : _≡_ {A = ℕ} 0 1 = cc p in omega arith)
-
--- it has one head
-pub one-head : {h k : Head} → To h ≡ To k → h ≡ k
-one-head e = cc
-
--- a section lies where its count is
-laid-at : {i j w : ℕ} {s : List ℤ} {e : Entries} → i ≡ j → Laid i w s e → Laid j w s e
-laid-at e l = rw (← e) l
-
 -- its head is the head of the slice
 pub walked-head : (s : List ℤ) {h : Head} → walk s ≡ To h → HeadOf h s
-unfolding walk
 walked-head s {h} p =
-    let x = past (sectionAt 2 1 s) _ p in
-    let w = wide-enough (pos (x .entries .count) -ℤ getD s 1 (pos 0)) _ (x .goes) in
-    let y = past (sectionAt (x .entries .next) (w .width) s) _ (w .goes) in
-    let z = past (sectionAt (y .entries .next) (x .entries .count + 1) s) _ (y .goes) in
-    let u = past (sectionAt (z .entries .next) (x .entries .count + 1) s) _ (z .goes) in
-    let extents = section-laid 2 1 s (x .is) in
-    let at : x .entries .next ≡ x .entries .count + 3 = omega arith in
-    rw (← one-head (u .goes))
-    (record {
-      kind = refl;
-      dense = refl;
-      rank = extents .count;
-      width = w .is;
-      rows = laid-at at (section-laid (x .entries .next) (w .width) s (y .is));
-      states = section-laid (y .entries .next) (x .entries .count + 1) s (z .is);
-      inputs = section-laid (z .entries .next) (x .entries .count + 1) s (u .is);
-    })
+    let r = record-walked s h p in
+    let count = laid (r .shape-lies) in
+    let at : r .extents .next ≡ h .rank + 3 = omega (arith, r .rank) in
+    record {
+      kind = r .kind;
+      dense = r .dense;
+      rank = count .count ∙ ap pos (sym (r .rank));
+      width = r .width;
+      rows = rw at at (laid (r .rows-lie));
+      states = laid (r .states-lie);
+      inputs = laid (r .inputs-lie);
+    }
 
 pub ruleset laws = (size-natural, count-small, one-more-small, one-more-fits, broken-extents, broken-width, broken-rows, broken-states, broken-inputs, walked)

@@ -16,6 +16,7 @@ ghost use Rattle.tables.specs.Rows.{HasRows};
 ghost use Rattle.records.specs.Sections.{SectionIn};
 ghost use Rattle.records.specs.Heads.{HeadOf};
 ghost use Rattle.records.specs.Judging.{Plain, PlainRecord, fewEntries, kindFits, axesFit, rowsFit, rowsBelow, small, smallDeps};
+ghost use Rattle.records.specs.Sound.{SoundRecord, soundHead, PlainHead};
 use cells::Sign;
 use rules::Entries;
 use rules::Head;
@@ -314,29 +315,48 @@ fn sound_by(s: &[i32], h: Head) -> bool
     within_sizes(s, h)
 }
 
+// The head of the record at the front of a slice, if the record is sound; it is plain then.
+pub fn sound_head(s: &[i32]) -> Walk
+    ensures is { λ r. ⌜ r ≡ soundHead (now (s .entry)) ⌝ }
+    ensures plain { λ r. ⌜ PlainHead r (now (s .entry)) ⌝ }
+{
+    let Walk::To(h) = walk_record(s) else {
+        return Walk::Broken;
+    };
+    if !sound_by(s, h) {
+        return Walk::Broken;
+    }
+    Walk::To(h)
+}
+
 // Whether the record at the front of a slice is sound; if so, it is plain.
 pub fn sound(s: &[i32]) -> bool
     ensures is { λ r. ⌜ r ≡ sound (now (s .entry)) ⌝ }
     ensures plain { λ r. ⌜ (r ≡ true → PlainRecord (now (s .entry))) ⌝ }
 {
-    match walk_record(s) {
-        Walk::To(h) => sound_by(s, h),
+    match sound_head(s) {
+        Walk::To(_) => true,
         Walk::Broken => false,
     }
+}
+
+// Whether the rows of a sound record increase.
+pub fn rows_ordered(s: &[i32], h: Head) -> bool
+    requires { ⌜ SoundRecord h (now s) ⌝ }
+    ensures { λ r. ⌜ r ≡ ordered (now (s .entry)) ⌝ }
+{
+    let rows = h.rows;
+    tables::is_increasing(s, rows.first, rows.count, h.width)
 }
 
 // Whether the record at the front of a slice is sound and its rows increase.
 pub fn ordered(s: &[i32]) -> bool
     ensures { λ r. ⌜ r ≡ ordered (now (s .entry)) ⌝ }
 {
-    if !sound(s) {
-        return false;
+    match sound_head(s) {
+        Walk::To(h) => rows_ordered(s, h),
+        Walk::Broken => false,
     }
-    let Walk::To(h) = walk_record(s) else {
-        return false;
-    };
-    let rows = h.rows;
-    tables::is_increasing(s, rows.first, rows.count, h.width)
 }
 
 // Row i of a plain record, as the part of the slice that it is; an empty part if there is none.
@@ -357,10 +377,7 @@ fn row_of(s: &[i32], h: Head, i: usize) -> &[i32]
 pub fn row(s: &[i32], n: i32) -> &[i32]
     ensures { λ r. ⌜ now r ≡ row (now (s .entry)) n ⌝ }
 {
-    if !sound(s) {
-        return &s[0..0];
-    }
-    let Walk::To(h) = walk_record(s) else {
+    let Walk::To(h) = sound_head(s) else {
         return &s[0..0];
     };
     let Sign::Natural(i) = cells::sign_of(n) else {

@@ -1,6 +1,6 @@
 -- What the contract of a call determines: two outcomes that it allows are equal. Assumes nothing.
 use mathlib.Core.Path.{_≡_, refl, sym, _∙_, ap}
-use mathlib.Core.Bool.{Bool, true, false}
+use mathlib.Core.Bool.{Bool}
 use mathlib.Core.List.{List}
 use Prim.Native.Nat.{ℕ}
 use lib.Dec.{eqb}
@@ -20,7 +20,7 @@ use Rattle.rules.specs.declared.Place.{Place}
 use Rattle.rules.specs.declared.Place.the-variants.{Found, Nothing, Refused as NoPlace}
 use Rattle.rules.specs.declared.Tuple.{Tuple}
 use Rattle.rules.specs.Lists.{if}
-use Rattle.rules.specs.Refusals.{Verdict, given, refused, inForm, numberOf}
+use Rattle.rules.specs.Refusals.{Verdict, given, refused, numberOf}
 use Rattle.rules.specs.Endings.{writtenSays, numberSays, testSays, comparisonSays, Lookup, found, nothing, placeSays, TupleIs, EndsIn, Ends}
 
 -- ---- a refusal is known by its number

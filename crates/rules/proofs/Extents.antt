@@ -5,8 +5,9 @@ use mathlib.Core.List.{List, [], _∷_}
 use Prim.Native.Nat.{ℕ, zero, suc, _*_, _≤_, _<_}
 use native.Mathlib.Nat.{zero-mul, mul-comm, mul-pos, mul-le-mul-left, le-mul-of-pos-right, le-trans}
 use native.Mathlib.Omega.{arith}
+use borrow.Author.Tests.{eq-eqb, ne-eqb}
 use lib.ListN.{getD}
-use lib.Dec.{eqb, eqb·suc-zero}
+use lib.Dec.{eqb}
 use Rattle.rules.specs.Limits.{productLimit}
 use Rattle.rules.specs.Lists.{keep, product}
 use Rattle.rules.specs.Layout.{Layout}
@@ -16,10 +17,18 @@ use Rattle.rules.proofs.Soundness.{WithinSizes}
 abbrev pub nonzeroProduct : List ℕ → ℕ
 nonzeroProduct shape = product (keep (λ e. not (eqb e 0)) shape)
 
--- an extent that is not zero is a factor
-nonzero-suc : (e : ℕ) (shape : List ℕ) → nonzeroProduct (suc e ∷ shape) ≡ suc e * nonzeroProduct shape
+-- a zero is left out
+pub nonzero-zero : (e : ℕ) (shape : List ℕ) → e ≡ 0 → nonzeroProduct (e ∷ shape) ≡ nonzeroProduct shape
+unfolding keep
+nonzero-zero e shape z = rw (eq-eqb e 0 z)
+
+-- every other extent is a factor
+pub nonzero-more : (e : ℕ) (shape : List ℕ) → (e ≡ 0 → ⊥) → nonzeroProduct (e ∷ shape) ≡ e * nonzeroProduct shape
 unfolding product keep
-nonzero-suc e shape = rw (eqb·suc-zero e)
+nonzero-more e shape n = rw (ne-eqb e 0 n)
+
+nonzero-suc : (e : ℕ) (shape : List ℕ) → nonzeroProduct (suc e ∷ shape) ≡ suc e * nonzeroProduct shape
+nonzero-suc e shape = nonzero-more (suc e) shape (λ z. omega arith)
 
 -- the product of the extents that are not zero is not zero
 pub nonzero-pos : (shape : List ℕ) → 0 < nonzeroProduct shape
@@ -28,22 +37,26 @@ nonzero-pos [] = omega arith
 nonzero-pos (zero ∷ shape) = nonzero-pos shape
 nonzero-pos (suc e ∷ shape) = rw nonzero-suc (mul-pos {m = suc e} (omega arith) (nonzero-pos shape))
 
+-- an extent times the product of those behind it is at most their product
+pub nonzero-most : (e : ℕ) (shape : List ℕ) → e * nonzeroProduct shape ≤ nonzeroProduct (e ∷ shape)
+nonzero-most zero shape = rw zero-mul (omega arith)
+nonzero-most (suc e) shape = rw nonzero-suc (omega arith)
+
 -- the product of all extents is at most that of those that are not zero
 pub product-nonzero : (shape : List ℕ) → product shape ≤ nonzeroProduct shape
 unfolding product keep
 product-nonzero [] = omega arith
-product-nonzero (zero ∷ shape) = rw zero-mul (omega arith)
-product-nonzero (suc e ∷ shape) = rw nonzero-suc (mul-le-mul-left (suc e) (product-nonzero shape))
+product-nonzero (e ∷ shape) = le-trans (mul-le-mul-left e (product-nonzero shape)) (nonzero-most e shape)
 
--- an extent is at most the product of those that are not zero
-pub extent-nonzero : (shape : List ℕ) (k : ℕ) → getD shape k 0 ≤ nonzeroProduct shape
+-- an extent is at most the product of those that are not zero, also a missing one that counts 1
+pub extent-nonzero : (shape : List ℕ) (k d : ℕ) → d ≤ 1 → getD shape k d ≤ nonzeroProduct shape
 unfolding product keep
-extent-nonzero [] k = omega arith
-extent-nonzero (zero ∷ shape) zero = omega arith
-extent-nonzero (zero ∷ shape) (suc k) = extent-nonzero shape k
-extent-nonzero (suc e ∷ shape) zero = rw nonzero-suc (le-mul-of-pos-right (suc e) (nonzero-pos shape))
-extent-nonzero (suc e ∷ shape) (suc k) =
-    le-trans (extent-nonzero shape k) (rw (nonzero-suc, mul-comm (suc e)) (le-mul-of-pos-right {m = suc e} (nonzeroProduct shape) (omega arith)))
+extent-nonzero [] k d h = h
+extent-nonzero (zero ∷ shape) zero d h = omega arith
+extent-nonzero (zero ∷ shape) (suc k) d h = extent-nonzero shape k d h
+extent-nonzero (suc e ∷ shape) zero d h = rw nonzero-suc (le-mul-of-pos-right (suc e) (nonzero-pos shape))
+extent-nonzero (suc e ∷ shape) (suc k) d h =
+    le-trans (extent-nonzero shape k d h) (rw (nonzero-suc, mul-comm (suc e)) (le-mul-of-pos-right {m = suc e} (nonzeroProduct shape) (omega arith)))
 
 module _ {l : Layout} (w : WithinSizes l) where
   -- the product of all extents is at most 65,536
@@ -52,4 +65,4 @@ module _ {l : Layout} (w : WithinSizes l) where
 
   -- each extent is at most 65,536
   pub extent-limited : (k : ℕ) → getD (l .shape) k 0 ≤ productLimit
-  extent-limited k = le-trans (extent-nonzero (l .shape) k) (w .product-most)
+  extent-limited k = le-trans (extent-nonzero (l .shape) k 0 (omega arith)) (w .product-most)

@@ -7,7 +7,6 @@ use Prim.Native.Nat.{ℕ, _≤_, _<_}
 use native.Mathlib.Omega.{arith}
 use borrow.Author.Tests.{leb-false, lt-leb}
 use lib.ListN.{length}
-use Rattle.rules.specs.Lists.{if}
 use Rattle.rules.specs.RowsInOrder.{insert, sorted, sortedOnto, sortedFew}
 use Rattle.rules.specs.Layout.{few}
 use Rattle.rules.proofs.Same.{true-not-false}

@@ -157,3 +157,9 @@ positions-ravel (c ∷ index) (e ∷ shape) n b =
     let rest = positions-ravel index shape (omega arith) (h .1) in
     let inside : ravelIndex index shape < length (positions shape) = rw positions-length (ravel-below index shape (omega arith) (h .1)) in
     rw (positions-length, zero-add, rest) at (spread-at 0 e c (ravelIndex index shape) (positions shape) (ltb-true c e (h .0)) inside)
+
+-- indices of the shape that have one number are the same
+pub ravel-same : {p q : List ℕ} (shape : List ℕ) → length p ≡ length shape → length q ≡ length shape →
+    allBelow p shape ≡ true → allBelow q shape ≡ true → ravelIndex p shape ≡ ravelIndex q shape → p ≡ q
+ravel-same {p} {q} shape m n a b e =
+    sym (positions-ravel p shape m a) ∙ ap (λ (k : ℕ). getD (positions shape) k []) e ∙ positions-ravel q shape n b

@@ -2,7 +2,7 @@
 --     Order, Same, Sets, Sorting, Merging, Places, Keeping, Few    rows in order, and sets of them
 --     Buffers, Writes                                              parts of a slice, and what was written there
 --     Tests, Soundness, Extents                                    what a sound layout is, part by part
---     Sections, Encoded, Walked, ReadBack                          the record of a layout, and the layout of a record
+--     RowsRead, Sections, Encoded, Walked, ReadBack                the record of a layout, and the layout of a record
 --     Ranges, Indices                                              every index of a shape, in order
 --     Before, Alike, Held, Finding, Found, Counting                what is held, found and counted
 --     Made, Once, Lowering, Listed, Unions, Low                    the union of two sound layouts by plain cases
@@ -21,6 +21,7 @@ pub mod Writes
 pub mod Tests
 pub mod Soundness
 pub mod Extents
+pub mod RowsRead
 pub mod Sections
 pub mod Encoded
 pub mod Walked

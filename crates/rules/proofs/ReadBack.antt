@@ -1,14 +1,14 @@
 -- A sound record is the record of the layout that is read from it. Assumes nothing.
-use mathlib.Core.Path.{_≡_, refl, sym, ap, _∙_}
-use mathlib.Core.Bool.{Bool, true}
+use mathlib.Core.Path.{_≡_, refl, sym, _∙_}
+use mathlib.Core.Bool.{true}
 use mathlib.Core.List.{List, [], _∷_, _++_, map, map-append}
 use Prim.Native.Nat.{ℕ, zero, suc, min, _+_, _*_, _≤_, _<_}
-use native.Mathlib.Nat.{zero-mul, suc-mul, mul-zero, mul-one, add-comm}
+use native.Mathlib.Nat.{mul-zero, mul-one}
 use native.Mathlib.Numerals.{add-one}
 use native.Mathlib.Omega.{arith}
 use lib.IntN.{ℤ, pos, negsuc}
 use lib.ListN.{length, getD, take, drop, replicate, length-map, length-replicate, take-append-drop}
-use lib.Seq.{take-add, take-take, drop-cons, take-append-seam}
+use lib.Seq.{take-add, drop-cons, take-append-seam}
 use lib.Signed.{nonNeg}
 use Rattle.rules.specs.declared.Entries.{Entries}
 use Rattle.rules.specs.declared.Head.{Head}
@@ -18,65 +18,15 @@ use Rattle.rules.specs.Limits.{entryLimit}
 use Rattle.rules.specs.Lists.{all, gather}
 use Rattle.rules.specs.Buffers.{part}
 use Rattle.rules.specs.Layout.{Layout, rank, section, encode, soundLayout}
-use Rattle.rules.specs.Record.{walk, natural, naturals, rowsOf, entriesOf, entriesIn, layoutBy, layoutIn, soundFrom, sound, behindRecord}
+use Rattle.rules.specs.Record.{walk, natural, naturals, entriesOf, entriesIn, layoutBy, layoutIn, soundFrom, sound, behindRecord}
 use Rattle.rules.proofs.Same.{both-true, true-not-false}
-use Rattle.rules.proofs.Buffers.{length-part, part-take}
+use Rattle.rules.proofs.Buffers.{length-part}
+use Rattle.rules.proofs.RowsRead.{all-part, pos-naturals, naturals-take, rows-length, gather-rows}
 use Rattle.rules.proofs.Soundness.{Sound, sound-true}
 use Rattle.rules.proofs.Encoded.{headOf, walk-encode}
 use Rattle.rules.proofs.Walked.{Lies, Walked, walked}
 
--- ---- numbers that are not negative
-
--- where all elements pass, those of the front do
-all-front : {A : Type 0} (test : A → Bool) (n : ℕ) (l : List A) → all test l ≡ true → all test (take n l) ≡ true
-unfolding all
-all-front test zero l e = refl
-all-front test (suc n) [] e = refl
-all-front test (suc n) (x ∷ l) e = let h = both-true (test x) (all test l) e in rw (h .0) (all-front test n l (h .1))
-
--- and those of the end
-all-end : {A : Type 0} (test : A → Bool) (n : ℕ) (l : List A) → all test l ≡ true → all test (drop n l) ≡ true
-unfolding all
-all-end test zero l e = e
-all-end test (suc n) [] e = refl
-all-end test (suc n) (x ∷ l) e = all-end test n l (both-true (test x) (all test l) e .1)
-
--- and those of a part of the front
-all-part : {A : Type 0} (test : A → Bool) (a n m : ℕ) (l : List A) → a + n ≤ m → all test (take m l) ≡ true → all test (part a n l) ≡ true
-all-part test a n m l h e =
-    rw (part-take, ← take-take (a + n) m l h) (all-end test a (take (a + n) (take m l)) (all-front test (a + n) (take m l) e))
-
--- a number that is not negative is the natural one that is read
-pos-natural : (z : ℤ) → nonNeg z ≡ true → pos (natural z) ≡ z
-unfolding natural
-pos-natural (pos n) e = refl
-pos-natural (negsuc n) e = cc
-
--- and so are several
-pos-naturals : (l : List ℤ) → all nonNeg l ≡ true → map pos (naturals l) ≡ l
-unfolding all
-pos-naturals [] e = refl
-pos-naturals (z ∷ l) e = let h = both-true (nonNeg z) (all nonNeg l) e in rw (pos-natural z (h .0), pos-naturals l (h .1))
-
--- the front of what is read is what is read of the front
-naturals-take : (n : ℕ) (l : List ℤ) → take n (naturals l) ≡ naturals (take n l)
-naturals-take zero l = refl
-naturals-take (suc n) [] = refl
-naturals-take (suc n) (z ∷ l) = rw (naturals-take n l)
-
 -- ---- entries that are read
-
--- n rows are read
-length-rows : (w n : ℕ) (l : List ℕ) → length (rowsOf w n l) ≡ n
-unfolding rowsOf
-length-rows w zero l = refl
-length-rows w (suc n) l = ap suc (length-rows w n (drop w l))
-
--- they are the front
-gather-rows : (w n : ℕ) (l : List ℕ) → gather (λ e. e) (rowsOf w n l) ≡ take (n * w) l
-unfolding rowsOf gather
-gather-rows w zero l = rw zero-mul
-gather-rows w (suc n) l = rw (suc-mul, add-comm (n * w) w, take-add, gather-rows w n (drop w l))
 
 -- entries of no numbers have none
 gather-empty : (n : ℕ) → gather (λ (e : List ℕ). e) (replicate n []) ≡ []
@@ -92,7 +42,7 @@ length-alike n x h = let size = length-replicate (min n 129) x in omega arith
 length-entries : (w n : ℕ) (l : List ℕ) → length (entriesOf w n l) ≤ entryLimit → length (entriesOf w n l) ≡ n
 unfolding entriesOf
 length-entries zero n l h = length-alike n [] h
-length-entries (suc w) n l h = length-rows (suc w) n l
+length-entries (suc w) n l h = rows-length (suc w) n l
 
 -- the numbers of the entries are the front
 gather-entries : (w n : ℕ) (l : List ℕ) → gather (λ e. e) (entriesOf w n l) ≡ take (n * w) l

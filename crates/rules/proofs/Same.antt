@@ -1,6 +1,6 @@
 -- Tests of sameness tell what they say, and agree with the order of rows. Assumes nothing.
-use mathlib.Core.Path.{_≡_, refl}
-use mathlib.Core.Bool.{Bool, true, false, _&&_}
+use mathlib.Core.Path.{_≡_, refl, sym}
+use mathlib.Core.Bool.{Bool, true, false, _&&_, _||_}
 use mathlib.Core.List.{List, [], _∷_}
 use Prim.Native.Nat.{ℕ}
 use native.Mathlib.Omega.{arith}
@@ -18,9 +18,20 @@ pub both-true : (a b : Bool) → a && b ≡ true → (a ≡ true) × (b ≡ true
 both-true true b e = (refl, e)
 both-true false b e = (e, cc)
 
+-- where neither holds, each one fails
+pub neither : (a b : Bool) → a || b ≡ false → (a ≡ false) × (b ≡ false)
+neither true b e = (e, cc)
+neither false b e = (refl, e)
+
 -- no test is both
 pub true-not-false : {a : Bool} → a ≡ true → a ≡ false → ⊥
 true-not-false e f = let z : _≡_ {A = ℕ} 0 1 = cc in omega arith
+
+-- two tests that hold together are one
+pub decided : (a b : Bool) → (a ≡ true → b ≡ true) → (b ≡ true → a ≡ true) → a ≡ b
+decided true b f g = sym (f refl)
+decided false true f g = g refl
+decided false false f g = refl
 
 -- ---- two lists
 

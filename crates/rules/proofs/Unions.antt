@@ -13,7 +13,7 @@ use Rattle.rules.specs.Layout.{Layout, rank, isDense, few, withDeps, mad
 use Rattle.rules.specs.CountsAndForms.{toDense}
 use Rattle.rules.specs.Removal.{lowered, lowerD, listsRow, barsExpansion}
 use Rattle.rules.specs.Union.{withMerged, alikeDiagonals, joined, unionOfRows, union}
-use Rattle.rules.proofs.Same.{true-not-false, same-true}
+use Rattle.rules.proofs.Same.{neither, true-not-false, same-true}
 use Rattle.rules.proofs.Sets.{each-nil, each-append}
 use Rattle.rules.proofs.Sorting.{sorted-each, sorted-sorted}
 use Rattle.rules.proofs.Merging.{merge-length-left, merge-length-right}
@@ -22,13 +22,8 @@ use Rattle.rules.proofs.Once.{Once, once-distinct}
 use Rattle.rules.proofs.Made.{fewOr, Formed, sound-formed, formed-made, made-sound, formed-merged}
 use Rattle.rules.proofs.Lowering.{Lowered, lowered-is}
 
--- where neither of two tests holds, each one fails
-neither : (s t : Bool) → s || t ≡ false → (s ≡ false) × (t ≡ false)
-neither true t e = absurd (true-not-false refl e)
-neither false t e = (refl, e)
-
 -- no refusal is an answer
-never : {A : Type 0} {n : ℕ} {x : A} → refused n ≡ given x → ⊥
+pub never : {A : Type 0} {n : ℕ} {x : A} → refused n ≡ given x → ⊥
 never e = let z : _≡_ {A = ℕ} 0 1 = cc in omega arith
 
 -- ---- layouts that are made

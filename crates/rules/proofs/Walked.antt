@@ -27,7 +27,7 @@ pub record Lies (i w : ℕ) (s : List ℤ) (e : Entries) : Type 0 where
   pub room : e .next ≤ length s
 
 -- entries that are whole by a test passed it
-passed : (t : Bool) {e f : Entries} → if t (Whole e) Cut ≡ Whole f → (t ≡ true) × (e ≡ f)
+pub passed : (t : Bool) {e f : Entries} → if t (Whole e) Cut ≡ Whole f → (t ≡ true) × (e ≡ f)
 passed true p = (refl, cc)
 passed false p = (cc, cc)
 
@@ -50,6 +50,7 @@ pub record Walked (s : List ℤ) (h : Head) : Type 0 where
   pub dense : h .dense ≡ getD s 1 (pos 0)
   pub extents : Entries
   pub rank : h .rank ≡ extents .count
+  pub width : pos (h .rank) -ℤ h .dense ≡ pos (h .width)
   pub shape-lies : Lies 2 1 s extents
   pub rows-lie : Lies (extents .next) (h .width) s (h .rows)
   pub states-lie : Lies (h .rows .next) (h .rank + 1) s (h .states)
@@ -61,12 +62,12 @@ past (Whole e) next h p f = f e refl p
 past Cut next h p f = absurd (let z : _≡_ {A = ℕ} 0 1 = cc p in omega arith)
 
 -- and with a width
-past-width : {C : Type 0} (z : ℤ) (next : ℕ → Walk) (h : Head) → widthBy z next ≡ To h → ((w : ℕ) → next w ≡ To h → C) → C
-past-width (pos w) next h p f = f w p
+past-width : {C : Type 0} (z : ℤ) (next : ℕ → Walk) (h : Head) → widthBy z next ≡ To h → ((w : ℕ) → z ≡ pos w → next w ≡ To h → C) → C
+past-width (pos w) next h p f = f w refl p
 past-width (negsuc n) next h p f = absurd (let z : _≡_ {A = ℕ} 0 1 = cc p in omega arith)
 
 -- it has one head
-one-head : {h k : Head} → To h ≡ To k → h ≡ k
+pub one-head : {h k : Head} → To h ≡ To k → h ≡ k
 one-head e = cc
 
 -- a walked record is what its head says
@@ -74,7 +75,7 @@ pub walked : (s : List ℤ) (h : Head) → walk s ≡ To h → Walked s h
 unfolding walk
 walked s h p =
     past (sectionAt 2 1 s) _ h p λ extents a p.
-    past-width (pos (extents .count) -ℤ getD s 1 (pos 0)) _ h p λ w p.
+    past-width (pos (extents .count) -ℤ getD s 1 (pos 0)) _ h p λ w v p.
     past (sectionAt (extents .next) w s) _ h p λ rows b p.
     past (sectionAt (rows .next) (extents .count + 1) s) _ h p λ states c p.
     past (sectionAt (states .next) (extents .count + 1) s) _ h p λ inputs d p.
@@ -84,6 +85,7 @@ walked s h p =
       dense = refl;
       extents = extents;
       rank = refl;
+      width = v;
       shape-lies = lies 2 1 s extents a;
       rows-lie = lies (extents .next) w s rows b;
       states-lie = lies (rows .next) (extents .count + 1) s states c;

@@ -6,7 +6,7 @@ use lib.IntN.{pos}
 use Rattle.rules.specs.Lists.{all, any, keep, gather, none, from, product, sum, largest, same, sameRows, allBelow, with, fitTo}
 use Rattle.rules.specs.Buffers.{part, zeros}
 use Rattle.rules.specs.RowsInOrder.{cmpRows, increasing, insert, sorted, sortedOnto}
-use Rattle.rules.specs.Refusals.{Verdict, given, refused, inForm, lowest}
+use Rattle.rules.specs.Refusals.{given, refused, inForm, lowest}
 use Rattle.rules.specs.Layout.{Layout, withinProduct, alike, wellFormed, withinSizes, soundLayout, made, encode}
 use Rattle.rules.specs.Record.{entriesFrom, sectionAt, walk, natural, rowsOf, entriesOf, layoutBy, layoutIn, sound, ordered}
 use Rattle.rules.specs.Arguments.{upTo, goodComponents}

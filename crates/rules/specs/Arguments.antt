@@ -1,11 +1,10 @@
 -- Numbers 1 to 5: what is judged of a call's arguments, over all of them, lowest first. Each call lists its own reasons.
-use mathlib.Core.Bool.{Bool, true, false, not, _&&_, _||_}
+use mathlib.Core.Bool.{Bool, false, not, _&&_}
 use mathlib.Core.List.{List}
 use Prim.Native.Nat.{ℕ}
 use lib.ListN.{length, getD}
 use lib.Dec.{eqb, leb, ltb}
 use lib.IntN.{ℤ, pos, negsuc}
-use lib.Signed.{nonNeg}
 use Rattle.rules.specs.Limits.{rankLimit, listLimit, productLimit, componentLimit, resultSize, workSize}
 use Rattle.rules.specs.Lists.{all}
 use Rattle.rules.specs.Record.{natural}

@@ -1,5 +1,5 @@
 -- Module 12, `broadcast`: layouts stretched to their common shape and folded by an operator.
-use mathlib.Core.Bool.{Bool, true, false, not, _&&_, _||_}
+use mathlib.Core.Bool.{Bool, false, not, _&&_, _||_}
 use mathlib.Core.List.{List, [], _∷_, map, reverse}
 use Prim.Native.Nat.{ℕ}
 use lib.ListN.{length, getD}

@@ -1,8 +1,8 @@
 -- Module 13, `concatenate`: blocks joined to one layout of the asked rank.
-use mathlib.Core.Bool.{Bool, true, false, not, _&&_, _||_}
+use mathlib.Core.Bool.{Bool, true, not, _&&_, _||_}
 use mathlib.Core.List.{List, [], _∷_, map}
-use Prim.Native.Nat.{ℕ, suc, _+_, _-_}
-use lib.ListN.{length, getD, drop, replicate}
+use Prim.Native.Nat.{ℕ, _+_, _-_}
+use lib.ListN.{getD, drop, replicate}
 use lib.Dec.{eqb, ltb}
 use lib.IntN.{ℤ}
 use lib.Signed.{nonNeg}

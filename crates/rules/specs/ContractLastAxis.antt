@@ -1,5 +1,5 @@
 -- Module 10, `contract_last_axis`: a layout summed over its last axis.
-use mathlib.Core.Bool.{Bool, not, _&&_, _||_}
+use mathlib.Core.Bool.{not, _||_}
 use mathlib.Core.List.{List, [], _∷_, map}
 use Prim.Native.Nat.{ℕ, _-_}
 use lib.ListN.{length, take}

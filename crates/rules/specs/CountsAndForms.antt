@@ -1,14 +1,14 @@
 -- Module 5, counts and forms: how many positions, how many axes, equality, constructors.
 use mathlib.Core.Bool.{Bool, not, _&&_, _||_}
 use mathlib.Core.List.{List, [], _∷_, map}
-use Prim.Native.Nat.{ℕ, zero, suc, _*_}
+use Prim.Native.Nat.{ℕ, suc, _*_}
 use lib.ListN.{length, getD, replicate}
 use lib.Dec.{eqb}
 use lib.IntN.{ℤ, pos}
 use lib.Signed.{nonNeg}
 use Rattle.rules.specs.Lists.{if, all, gather, product, same, sameRows}
 use Rattle.rules.specs.Refusals.{Verdict, given, inForm, _then_, _when_, lowest}
-use Rattle.rules.specs.Layout.{Layout, rank, isDense, isDiagonal, isSparse, wellFormed, made}
+use Rattle.rules.specs.Layout.{Layout, rank, isDense, isDiagonal, isSparse, made}
 use Rattle.rules.specs.Record.{natural, naturals, entriesOf, layoutIn, sound, shapeIn, goodShape}
 use Rattle.rules.specs.Arguments.{overRank, overRecord, overShape, shortResult}
 

@@ -1,10 +1,10 @@
 -- Module 3, dependencies: which are kept by a layout. Merging two lists is `merge` of RowsInOrder.
-use mathlib.Core.Bool.{Bool, not, _&&_, _||_}
-use mathlib.Core.List.{List, [], _∷_, _++_}
+use mathlib.Core.Bool.{Bool, not, _&&_}
+use mathlib.Core.List.{List, _++_}
 use Prim.Native.Nat.{ℕ, _-_}
 use lib.ListN.{length, getD, take, drop}
-use lib.Dec.{eqb, ltb}
-use Rattle.rules.specs.Lists.{if, all, none, keep, allBelow}
+use lib.Dec.{ltb}
+use Rattle.rules.specs.Lists.{if, none, keep, allBelow}
 use Rattle.rules.specs.RowsInOrder.{among}
 use Rattle.rules.specs.Layout.{Layout, isDense, isDiagonal, isSparse, alike}
 

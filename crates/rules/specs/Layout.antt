@@ -1,8 +1,8 @@
 -- A layout, when it is sound, and its record.
-use mathlib.Core.Bool.{Bool, true, false, not, _&&_, _||_}
+use mathlib.Core.Bool.{Bool, true, not, _&&_, _||_}
 use mathlib.Core.List.{List, [], _∷_, _++_, map}
 use Prim.Native.Nat.{ℕ, suc, _-_}
-use lib.ListN.{length, getD, take}
+use lib.ListN.{length, take}
 use lib.Dec.{eqb, leb}
 use lib.IntN.{ℤ, pos}
 use Rattle.rules.specs.Limits.{rankLimit, entryLimit, productLimit, componentLimit}

@@ -1,9 +1,9 @@
 -- The record of a layout in a slice of signed numbers: walked, judged and read.
-use mathlib.Core.Bool.{Bool, true, false, not, _&&_, _||_}
-use mathlib.Core.List.{List, [], _∷_, _++_, map}
+use mathlib.Core.Bool.{Bool, false, _&&_}
+use mathlib.Core.List.{List, [], _∷_, map}
 use Prim.Native.Nat.{ℕ, zero, suc, min, _+_, _*_}
 use lib.ListN.{length, getD, take, drop, replicate}
-use lib.Dec.{eqb, leb, ltb}
+use lib.Dec.{leb, ltb}
 use lib.IntN.{ℤ, pos, negsuc, _-ℤ_}
 use lib.Signed.{nonNeg}
 use Rattle.rules.specs.declared.Entries.{Entries}

@@ -1,8 +1,8 @@
 -- Module 7, removal: dense axes of a sparse layout become listed ones. 14 is never reached: a dense layout is not handed to it.
 use mathlib.Core.Bool.{Bool, not, _&&_}
 use mathlib.Core.List.{List, [], _∷_, _++_, map}
-use Prim.Native.Nat.{ℕ, suc, min, _-_}
-use lib.ListN.{length, getD, take, drop, replicate}
+use Prim.Native.Nat.{ℕ, min, _-_}
+use lib.ListN.{getD, take, drop, replicate}
 use lib.Dec.{ltb}
 use Rattle.rules.specs.Lists.{if, none, gather, below}
 use Rattle.rules.specs.RowsInOrder.{sortedFew}

@@ -10,12 +10,12 @@ use lib.IntN.{ℤ}
 use lib.ListN.{length, getD, take, drop, length-map}
 use Rattle.rules.specs.Limits.{rankLimit}
 use Rattle.rules.specs.Lists.{all, larger, largest, below, fitTo}
-use Rattle.rules.specs.Record.{shapeIn}
+use Rattle.rules.specs.Record.{shapeIn, behindShape}
 use Rattle.rules.specs.Shapes.{extents, commonExtent, axisAgrees, shapesAgree, commonShape}
-use Rattle.shapes.specs.Judged.{Behind, shapesFrom, shapesOf}
-use Rattle.shapes.proofs.Passing.{length-from}
-use Rattle.shapes.proofs.Judging.{to-end}
-use Rattle.shapes.proofs.Walking.{next-shape, none-left}
+use Rattle.rules.proofs.Ranges.{from-length}
+use Rattle.records.specs.EndToEnd.{Behind}
+use Rattle.records.proofs.EndToEnd.{to-end, next-left, none-left}
+use Rattle.shapes.specs.Judged.{shapesFrom, shapesOf}
 
 -- ---- the larger of two numbers
 
@@ -63,16 +63,16 @@ pub record LargestLeft (g : List ℕ → ℕ) (n : ℕ) (s : List ℤ) (most lef
 pub largest-start : {g : List ℕ → ℕ} {n : ℕ} {s : List ℤ} → LargestLeft g n s 0 n 0
 largest-start {g} {n} {s} = record { inside = omega arith; eq = sym (zero-larger (largest (map g (shapesOf n s)))) }
 
-pub largest-turn : {g : List ℕ → ℕ} {n : ℕ} {s : List ℤ} {most left at at′ x most′ : ℕ} → LargestLeft g n s most left at → 0 < left → Behind at s at′ →
+pub largest-turn : {g : List ℕ → ℕ} {n : ℕ} {s : List ℤ} {most left at at′ x most′ : ℕ} → LargestLeft g n s most left at → 0 < left → Behind behindShape at s at′ →
     x ≡ g (shapeIn (take (length s - at) (drop at s))) → most′ ≡ larger most x → LargestLeft g n s most′ (left - 1) at′
 unfolding largest
 largest-turn {g} {n} {s} {most} {left} {at} {at′} {x} {most′} p h b e f =
     let there : x ≡ g (shapeIn (drop at s)) = e ∙ ap (λ (l : List ℤ). g (shapeIn l)) (to-end at s) in
-    record { inside = b .inside; eq = p .eq ∙ rw (next-shape left at at′ s h b, ← there, f) (sym (larger-assoc most x (largest (map g (shapesOf (left - 1) (drop at′ s)))))) }
+    record { inside = b .inside; eq = p .eq ∙ rw (next-left behindShape left at at′ s h b, ← there, f) (sym (larger-assoc most x (largest (map g (shapesOf (left - 1) (drop at′ s)))))) }
 
 pub largest-done : {g : List ℕ → ℕ} {n : ℕ} {s : List ℤ} {most left at : ℕ} → LargestLeft g n s most left at → left ≤ 0 → most ≡ largest (map g (shapesOf n s))
 unfolding largest
-largest-done {s = s} {most = most} {left = left} {at = at} p h = sym (p .eq ∙ rw (none-left left (drop at s) h) (larger-zero most))
+largest-done {s = s} {most = most} {left = left} {at = at} p h = sym (p .eq ∙ rw (none-left behindShape left (drop at s) h) (larger-zero most))
 
 pub ruleset largest-laws = (largest-start, largest-turn, largest-done, larger-low)
 
@@ -110,4 +110,4 @@ common-is axes n s e f = f ∙ rw e
 -- it has as many axes as the longest shape
 pub length-common : (shapes : List (List ℕ)) → length (commonShape shapes) ≡ largest (map length shapes)
 unfolding commonShape
-length-common shapes = length-map (below (largest (map length shapes))) (λ axis. commonExtent axis shapes) ∙ length-from 0 (largest (map length shapes))
+length-common shapes = length-map (below (largest (map length shapes))) (λ axis. commonExtent axis shapes) ∙ from-length 0 (largest (map length shapes))

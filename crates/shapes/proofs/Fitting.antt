@@ -1,17 +1,17 @@
 -- Four numbers by value: a list that is filled up with zeros. Assumes nothing.
 use mathlib.Core.Path.{_≡_, refl, sym, ap, _∙_}
+use mathlib.Core.Bool.{not}
 use mathlib.Core.List.{List, [], _∷_, _++_, map, append-assoc}
 use Prim.Native.Nat.{ℕ, zero, suc, _+_, _<_, _≤_}
-use native.Mathlib.Nat.{add-comm, zero-add, one-mul}
+use native.Mathlib.Nat.{add-comm, zero-add}
 use native.Mathlib.Numerals.{add-one}
 use native.Mathlib.Omega.{arith}
+use lib.Dec.{eqb}
 use lib.ListN.{length, take, set, replicate, length-append, length-map, length-replicate, replicate-append-replicate}
 use lib.Seq.{take-append-le, take-set-lt, set-at, take-at}
-use Rattle.rules.specs.Lists.{from, below, fitTo}
+use Rattle.rules.specs.Lists.{putIf, keep, from, below, fitTo}
 use Rattle.rules.specs.Layout.{withinProduct}
-use Rattle.shapes.specs.Judged.{factorOf}
-use Rattle.shapes.proofs.Passing.{length-from}
-use Rattle.shapes.proofs.Products.{nonzero, nonzero-cons}
+use Rattle.rules.proofs.Ranges.{from-length}
 
 -- what fills a list up may be written out
 fit-more : (n v : ℕ) (l : List ℕ) → fitTo n v (l ++ (v ∷ [])) ≡ fitTo n v l
@@ -37,19 +37,18 @@ unfolding fitTo
 fit-zeros n k =
     rw (replicate-append-replicate {A = ℕ} k n 0, add-comm k n, ← replicate-append-replicate {A = ℕ} n k 0) (take-at (replicate n 0) (replicate k 0) n (length-replicate n 0))
 
--- zeros do not count in the product
-fit-nonzero : (n m : ℕ) (l : List ℕ) → length l ≤ n → nonzero (take n (l ++ replicate m 0)) ≡ nonzero l
-unfolding factorOf
-fit-nonzero zero m [] h = refl
-fit-nonzero (suc n) zero [] h = refl
-fit-nonzero (suc n) (suc m) [] h = nonzero-cons 0 (take n (replicate m 0)) ∙ one-mul (nonzero (take n (replicate m 0))) ∙ fit-nonzero n m [] (omega arith)
-fit-nonzero zero m (x ∷ l) h = absurd (omega arith)
-fit-nonzero (suc n) m (x ∷ l) h =
-    nonzero-cons x (take n (l ++ replicate m 0)) ∙ rw (fit-nonzero n m l (omega arith)) (sym (nonzero-cons x l))
+-- zeros are not kept, so they do not count in the product
+fit-keep : (n m : ℕ) (l : List ℕ) → length l ≤ n → keep (λ e. not (eqb e 0)) (take n (l ++ replicate m 0)) ≡ keep (λ e. not (eqb e 0)) l
+unfolding keep
+fit-keep zero m [] h = refl
+fit-keep (suc n) zero [] h = refl
+fit-keep (suc n) (suc m) [] h = fit-keep n m [] (omega arith)
+fit-keep zero m (x ∷ l) h = absurd (omega arith)
+fit-keep (suc n) m (x ∷ l) h = ap (putIf (not (eqb x 0)) x) (fit-keep n m l (omega arith))
 
 pub within-fit : (n : ℕ) (l : List ℕ) → length l ≤ n → withinProduct (fitTo n 0 l) ≡ withinProduct l
 unfolding withinProduct fitTo
-within-fit n l h = rw (fit-nonzero n n l h)
+within-fit n l h = rw (fit-keep n n l h)
 
 -- ---- filled from the front on
 
@@ -72,7 +71,7 @@ filled-start h = record { upto = omega arith; room = h; is = refl }
 
 pub filled-turn : {f : ℕ → ℕ} {n k v : ℕ} {out : List ℕ} → Filled f n k out → k < n → v ≡ f k → Filled f n (k + 1) (set out k v)
 filled-turn {f} {n} {k} {v} p h e =
-    let long : length (map f (below k)) ≡ k = length-map (below k) f ∙ length-from 0 k in
+    let long : length (map f (below k)) ≡ k = length-map (below k) f ∙ from-length 0 k in
     let more : map f (below k) ++ (f k ∷ []) ≡ map f (below (k + 1)) = rw add-one (rw zero-add at (map-more f 0 k)) in
     record { upto = omega arith; room = p .room; is = rw (p .is, e, fit-snoc 4 0 k (f k) (map f (below k)) long (omega arith), more) }
 

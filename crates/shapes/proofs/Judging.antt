@@ -1,30 +1,37 @@
 -- What a shape that was judged says of its slice. Assumes nothing.
 use mathlib.Core.Path.{_≡_, refl, sym, ap, _∙_}
-use mathlib.Core.Bool.{Bool, true, false, _&&_}
+use mathlib.Core.Bool.{Bool, true, false, not}
 use mathlib.Core.List.{List, [], _∷_}
-use Prim.Native.Nat.{ℕ, zero, suc, _+_, _-_, _*_, _<_, _≤_, _^_}
-use native.Mathlib.Nat.{mul-one, add-comm}
+use Prim.Native.Nat.{ℕ, suc, _+_, _-_, _*_, _<_, _≤_, _^_}
+use native.Mathlib.Nat.{mul-one, add-comm, le-trans}
 use native.Mathlib.Omega.{arith}
-use borrow.Author.Tests.{ltb-false, leb-true, not-true, not-false}
+use borrow.Author.Tests.{ltb-false, leb-true, not-false}
 use lib.Dec.{leb}
 use lib.IntN.{ℤ, pos, negsuc}
 use lib.ListN.{length, getD, take, drop, length-take, length-drop, List·getD-eq-default, List·getD-map}
-use lib.Seq.{getD-take, getD-drop, drop-drop, drop-length, take-all}
+use lib.Seq.{getD-take, getD-drop, drop-drop, drop-length}
 use lib.Signed.{nonNeg}
 use mir.Syntax.{w64}
 use mir.Val.{Fits}
 use Rattle.rules.specs.declared.Entries.{Entries}
 use Rattle.rules.specs.declared.Section.{Section}
 use Rattle.rules.specs.declared.Section.the-variants.{Whole, Cut}
+use Rattle.rules.specs.Limits.{productLimit}
 use Rattle.rules.specs.Lists.{if, all}
 use Rattle.rules.specs.Buffers.{part}
 use Rattle.rules.specs.Layout.{withinProduct}
 use Rattle.rules.specs.Record.{natural, naturals, entriesFrom, sectionAt, goodExtents, goodShape, shapeIn, behindShape}
+use Rattle.rules.proofs.Extents.{nonzeroProduct, extent-nonzero}
 use Rattle.rules.proofs.Same.{both-true, true-not-false}
+use Rattle.cells.specs.View.{view, Low}
 use Rattle.records.specs.Sections.{Laid, SectionIn}
-use Rattle.shapes.specs.Judged.{Judged, Behind}
+use Rattle.records.specs.EndToEnd.{Behind}
+use Rattle.records.proofs.EndToEnd.{to-end}
+use Rattle.records.proofs.InTurn.{first-fails, first-holds}
+use Rattle.records.proofs.Low.{naturals-part}
+use Rattle.records.proofs.Sections.{other-default}
+use Rattle.shapes.specs.Judged.{Judged}
 use Rattle.shapes.proofs.Reading.{length-naturals}
-use Rattle.shapes.proofs.Products.{extent-small}
 
 -- the count of extents as it stands there
 abbrev counted : List ℤ → ℕ
@@ -49,12 +56,6 @@ good (pos n ∷ l) e = by (leb (1 + n * 1) (suc (length l))) refl e
         record { room = rw mul-one at room; within = both-true (all nonNeg (part 1 n (pos n ∷ l))) (withinProduct (shapeIn (pos n ∷ l))) f .1 }
     by false h f = absurd (true-not-false f refl)
 
--- a place of the list has what it has, whatever is read behind the end
-any-default : {A : Type 0} (l : List A) (i : ℕ) (d e : A) → i < length l → getD l i d ≡ getD l i e
-any-default [] i d e h = absurd (omega arith)
-any-default (x ∷ l) zero d e h = refl
-any-default (x ∷ l) (suc i) d e h = any-default l i d e (omega arith)
-
 module _ (s : List ℤ) (j : Judged s) where
   pub rank-counted : length (shapeIn s) ≡ counted s
   unfolding shapeIn part
@@ -70,7 +71,8 @@ module _ (s : List ℤ) (j : Judged s) where
 
   -- each extent is within the limit
   extent-low : (a : ℕ) → getD (shapeIn s) a 1 ≤ 65536
-  extent-low a = extent-small (shapeIn s) a (good s (j .good) .within)
+  unfolding withinProduct
+  extent-low a = le-trans (extent-nonzero (shapeIn s) a 1 (omega arith)) (leb-true (nonzeroProduct (shapeIn s)) productLimit (good s (j .good) .within))
 
   -- an axis that is there has its extent
   pub extent-there : {a n r : ℕ} → r ≡ length (shapeIn s) → a < r → n ≡ natural (getD s (a + 1) (pos 0)) → n ≡ getD (shapeIn s) a 1
@@ -81,7 +83,7 @@ module _ (s : List ℤ) (j : Judged s) where
       let below : a < counted s = omega (arith, rank-counted) in
       let inside : a < length part = simp (length-take, length-drop) (omega arith) in
       let there : getD part a (pos 1) ≡ getD s (a + 1) (pos 0) =
-      any-default part a (pos 1) (pos 0) inside
+      other-default part a (pos 1) (pos 0) inside
       ∙ getD-take (counted s) (drop 1 s) a (pos 0) below
       ∙ getD-drop 1 s a (pos 0)
       ∙ ap (λ (i : ℕ). getD s i (pos 0)) (add-comm 1 a) in
@@ -96,54 +98,48 @@ module _ (s : List ℤ) (j : Judged s) where
 
 pub ruleset extent-laws = (rank-is, rank-small, extent-there, extent-there-low, extent-missing)
 
--- ---- both tests of the extents
-
-module _ {a : Bool} (p q : Bool) (e : a ≡ p) where
-  pub first-fails : a ≡ false → false ≡ p && q
-  first-fails f = rw (← e, f)
-
-  pub second-says : {b : Bool} → a ≡ true → b ≡ q → b ≡ p && q
-  second-says f g = rw (← e, f) g
-
-pub ruleset both-tests = (first-fails, second-says, not-true, not-false)
-
 -- ---- the shape at the front
--- a whole shape has its extents behind its count
-whole-part : (s : List ℤ) (e : Entries) → Laid 0 1 s e → take (e .next - 1) (drop 1 s) ≡ part 1 (e .count) s
-unfolding part
-whole-part s e l = let n : e .next - 1 ≡ e .count = omega (arith, mul-one (e .count)) in rw n
 
-whole-shape : (s : List ℤ) (e : Entries) → Laid 0 1 s e → naturals (part 1 (e .count) s) ≡ shapeIn s
-unfolding shapeIn natural
-whole-shape s e l = rw (l .count)
+-- a whole shape has its count in front, which is natural, and its extents behind it
+front-natural : (s : List ℤ) (e : Entries) → Laid 0 1 s e → all nonNeg (take (e .next) s) ≡ all nonNeg (part 1 (e .count) s)
+unfolding all part
+front-natural [] e l = absurd (omega (arith, l .at))
+front-natural (z ∷ s) e l = let n : e .next ≡ suc (e .count) = omega (arith, mul-one (e .count), l .next, l .first) in rw (n, l .count)
 
 module _ (s : List ℤ) {g : Section} (is : g ≡ sectionAt 0 1 s) where
-  -- it is good if its extents are
-  pub good-whole : {e : Entries} {b : Bool} → SectionIn 0 1 s g → g ≡ Whole e →
-      b ≡ all nonNeg (take (e .next - 1) (drop 1 s)) && withinProduct (naturals (take (e .next - 1) (drop 1 s))) → b ≡ goodShape s
-  unfolding goodShape
-  good-whole {e} {b} lies f h =
-      let l : Laid 0 1 s e = (rw f at lies) .0 in
-      h ∙ rw (whole-part s e l, whole-shape s e l, ← is, f)
-
+  -- one that is cut off is not good
   pub good-cut : g ≡ Cut → false ≡ goodShape s
   unfolding goodShape
   good-cut f = rw (← is, f)
 
-  -- its extents lie behind its count
-  pub part-starts : {e : Entries} → SectionIn 0 1 s g → g ≡ Whole e → 1 ≤ e .next
-  part-starts {e} lies f = let l : Laid 0 1 s e = (rw f at lies) .0 in omega arith
+  module _ {e : Entries} (lies : SectionIn 0 1 s g) (f : g ≡ Whole e) where
+    laid : Laid 0 1 s e
+    laid = (rw f at lies) .0
 
-  pub part-ends : {e : Entries} → SectionIn 0 1 s g → g ≡ Whole e → e .next ≤ length s
-  part-ends {e} lies f = let l : Laid 0 1 s e = (rw f at lies) .0 in l .room
+    -- its extents lie in the slice
+    pub extents-end : e .next ≤ length s
+    extents-end = laid .room
 
-pub ruleset good-laws = (good-whole, good-cut, part-starts, part-ends)
+    pub extents-room : 1 + e .count ≤ length s
+    extents-room = omega (arith, mul-one (e .count), laid .next, laid .first, laid .room)
+
+    module _ {t : Bool} (d : t ≡ all nonNeg (take (e .next) s)) where
+      -- one of them is negative
+      pub good-negative : not t ≡ true → false ≡ goodShape s
+      unfolding goodShape
+      good-negative k = rw (← is, f) (first-fails (withinProduct (shapeIn s)) (d ∙ front-natural s e laid) k)
+
+      -- none is: their product decides
+      pub good-product : {u : Bool} → not t ≡ false → (t ≡ true → Low (take (e .next) (view s))) → u ≡ withinProduct (part 1 (e .count) (view s)) → u ≡ goodShape s
+      unfolding goodShape shapeIn natural
+      good-product k low h =
+          let inside : 1 + e .count ≤ e .next = omega (arith, mul-one (e .count), laid .next, laid .first) in
+          let seen : naturals (part 1 (e .count) s) ≡ part 1 (e .count) (view s) = naturals-part 1 (e .count) (e .next) s inside (low (not-false t k)) in
+          rw (← is, f, first-holds (d ∙ front-natural s e laid) k, laid .count, seen) h
+
+pub ruleset good-laws = (good-cut, extents-end, extents-room, good-negative, good-product)
 
 -- ---- what stands behind it
-
--- a part up to the end is all that stands there
-pub to-end : (at : ℕ) (s : List ℤ) → take (length s - at) (drop at s) ≡ drop at s
-to-end at s = take-all (length s - at) (drop at s) (rw length-drop (omega arith))
 
 module _ (at : ℕ) (s : List ℤ) {g : Section} (is : g ≡ sectionAt 0 1 (take (length s - at) (drop at s))) (h : at ≤ length s) where
   shown : g ≡ sectionAt 0 1 (drop at s)
@@ -158,11 +154,11 @@ module _ (at : ℕ) (s : List ℤ) {g : Section} (is : g ≡ sectionAt 0 1 (take
   pub behind-fits : {e : Entries} → SectionIn 0 1 (take (length s - at) (drop at s)) g → g ≡ Whole e → length s < 2 ^ 64 → Fits w64 (at + e .next)
   behind-fits lies f k = record { fits = let r = room lies f in omega arith }
 
-  pub behind-whole : {e : Entries} → SectionIn 0 1 (take (length s - at) (drop at s)) g → g ≡ Whole e → Behind at s (at + e .next)
+  pub behind-whole : {e : Entries} → SectionIn 0 1 (take (length s - at) (drop at s)) g → g ≡ Whole e → Behind behindShape at s (at + e .next)
   unfolding behindShape
   behind-whole {e} lies f = record { inside = room lies f; rest = rw (← shown, f) (sym (drop-drop (e .next) at s)) }
 
-  pub behind-cut : g ≡ Cut → Behind at s (length s)
+  pub behind-cut : g ≡ Cut → Behind behindShape at s (length s)
   unfolding behindShape
   behind-cut f = record { inside = omega arith; rest = rw (← shown, f) (drop-length s) }
 

@@ -1,6 +1,5 @@
 pub mod Reading
 pub mod Passing
-pub mod Products
 pub mod Judging
 pub mod Walking
 pub mod Common

@@ -2,35 +2,31 @@
 use mathlib.Core.Path.{_≡_, refl, sym, ap, _∙_}
 use mathlib.Core.Bool.{Bool, true, false, not}
 use mathlib.Core.List.{List}
-use Prim.Native.Nat.{ℕ, _<_, _≤_, _^_}
+use Prim.Native.Nat.{ℕ, _<_, _≤_}
 use native.Mathlib.Omega.{arith}
 use borrow.Author.Tests.{lt-ltb, le-ltb, le-leb, lt-leb, leb-true, leb-false, eq-eqb, ne-eqb, eqb-true, not-true, not-false}
 use lib.Dec.{ltb, leb, eqb}
 use lib.IntN.{ℤ, pos, negsuc}
 use lib.ListN.{length, getD, List·getD-eq-default, List·getD-map, length-map}
-use lib.Signed.{mag, ltZ, nonNeg}
+use lib.Signed.{nonNeg}
 use mir.Syntax.{w32}
 use mir.Val.{SFits, toZ, ofZ}
 use mir.ValLaws.{toZ-ofZ}
-use Rattle.rules.specs.Limits.{listLimit, componentLimit}
+use Rattle.rules.specs.Limits.{listLimit}
 use Rattle.rules.specs.Record.{natural, naturals, listCount}
 use Rattle.rules.specs.Arguments.{upTo, overCount, goodComponents, goodIndex}
 use Rattle.rules.proofs.Same.{true-not-false}
 use Rattle.cells.specs.declared.Sign.{Sign}
 use Rattle.cells.specs.declared.Sign.the-variants.{Natural, Negative}
-use Rattle.cells.specs.View.{signOf, sizeOf}
+use Rattle.cells.specs.View.{signOf}
+use Rattle.records.proofs.Numbers.{natural-passes, negative-fails}
+use Rattle.records.proofs.Sections as sections
 use Rattle.shapes.specs.Judged.{comparableIndices}
 
 -- a number is above a limit where it is not up to it
 above-limit : (limit n : ℕ) (t : Bool) → leb n limit ≡ t → ltb limit n ≡ not (leb n limit)
 above-limit limit n true e = rw (e, le-ltb limit n (leb-true n limit e))
 above-limit limit n false e = rw (e, lt-ltb limit n (leb-false n limit e))
-
--- a number that was read as natural is that number
-read-natural : (z : ℤ) {n : ℕ} → signOf z ≡ Natural n → z ≡ pos n
-unfolding signOf
-read-natural (pos m) e = cc
-read-natural (negsuc m) e = cc
 
 -- what is judged of a number that was read as negative
 module _ (z : ℤ) (e : signOf z ≡ Negative) where
@@ -58,10 +54,6 @@ module _ (z : ℤ) (e : signOf z ≡ Negative) where
       by (pos n) f = cc
       by (negsuc n) f = refl
 
--- a count that was read is a 32-bit number
-pub small-read : {g : Sign} {n b : ℕ} → sizeOf g < b → g ≡ Natural n → n < b
-small-read h e = rw e at h
-
 -- a number that was handed over is the one that was read
 pub handed-over : {g : Sign} (z : ℤ) → SFits w32 z → g ≡ signOf (toZ w32 (ofZ w32 z)) → g ≡ signOf z
 handed-over z h e = e ∙ ap signOf (toZ-ofZ w32 z h)
@@ -71,58 +63,52 @@ pub nothing-there : (s : List ℤ) (i : ℕ) → length s ≤ i → 0 ≡ natura
 unfolding natural
 nothing-there s i h = rw (List·getD-eq-default s (pos 0) h)
 
+-- and nothing is within every limit
+pub nothing-up-to : (limit : ℕ) (s : List ℤ) (i : ℕ) → length s ≤ i → true ≡ upTo limit (getD s i (pos 0))
+unfolding upTo
+nothing-up-to limit s i h = rw (List·getD-eq-default s (pos 0) h, le-leb 0 limit (omega arith))
+
 module _ {g : Sign} (z : ℤ) (e : g ≡ signOf z) where
   pub as-natural : {n : ℕ} → g ≡ Natural n → n ≡ natural z
   unfolding natural
-  as-natural f = rw (read-natural z (sym e ∙ f))
+  as-natural f = rw (sections.sign-natural z (sym e ∙ f))
 
   pub as-nothing : g ≡ Negative → 0 ≡ natural z
   as-nothing f = none-natural z (sym e ∙ f)
 
   pub as-over : {n : ℕ} → g ≡ Natural n → ltb listLimit n ≡ overCount z
   unfolding upTo
-  as-over {n} f = rw (read-natural z (sym e ∙ f)) (above-limit listLimit n (leb n listLimit) refl)
+  as-over {n} f = rw (sections.sign-natural z (sym e ∙ f)) (above-limit listLimit n (leb n listLimit) refl)
 
   pub as-over-negative : g ≡ Negative → true ≡ overCount z
   as-over-negative f = ap not (none-up-to z (sym e ∙ f) listLimit)
 
   pub as-count : {n : ℕ} → g ≡ Natural n → n ≤ listLimit → n ≡ listCount z
   unfolding listCount
-  as-count {n} f h = rw (read-natural z (sym e ∙ f), le-leb n listLimit h)
+  as-count {n} f h = rw (sections.sign-natural z (sym e ∙ f), le-leb n listLimit h)
 
   pub as-no-count : {n : ℕ} → g ≡ Natural n → listLimit < n → 0 ≡ listCount z
   unfolding listCount
-  as-no-count {n} f h = rw (read-natural z (sym e ∙ f), lt-leb n listLimit h)
+  as-no-count {n} f h = rw (sections.sign-natural z (sym e ∙ f), lt-leb n listLimit h)
 
   pub as-negative-count : g ≡ Negative → 0 ≡ listCount z
   as-negative-count f = none-listed z (sym e ∙ f)
 
-  pub as-component : {n : ℕ} → g ≡ Natural n → leb n componentLimit ≡ upTo componentLimit z
+  pub as-up-to : (limit : ℕ) {n : ℕ} → g ≡ Natural n → leb n limit ≡ upTo limit z
   unfolding upTo
-  as-component f = rw (read-natural z (sym e ∙ f))
+  as-up-to limit f = rw (sections.sign-natural z (sym e ∙ f))
 
-  pub as-no-component : g ≡ Negative → false ≡ upTo componentLimit z
-  as-no-component f = none-up-to z (sym e ∙ f) componentLimit
+  pub as-not-up-to : (limit : ℕ) → g ≡ Negative → false ≡ upTo limit z
+  as-not-up-to limit f = none-up-to z (sym e ∙ f) limit
 
--- a number is natural where it is not below 0
-not-below : (z : ℤ) → nonNeg z ≡ not (ltZ z (pos 0))
-not-below (pos n) = rw (le-ltb n 0 (omega arith))
-not-below (negsuc n) = refl
-
--- what a test of a number that stands in a slice says
-pub test-natural : (z : ℤ) {b : Bool} → mag z < 2 ^ 31 → ltZ (toZ w32 (ofZ w32 z)) (pos 0) ≡ b → not b ≡ nonNeg z
-test-natural z h e = sym (not-below z ∙ ap not (sym (ap (λ (y : ℤ). ltZ y (pos 0)) (toZ-ofZ w32 z (record { sfits = h }))) ∙ e))
-
-pub ruleset reading = (small-read, handed-over, nothing-there, as-natural, as-nothing, as-over, as-over-negative, as-count, as-no-count, as-negative-count, as-component, as-no-component)
+pub ruleset reading = (sections.size-natural, handed-over, nothing-there, as-natural, as-nothing, as-over, as-over-negative, as-count, as-no-count, as-negative-count, nothing-up-to, as-up-to, as-not-up-to)
 
 -- the sign of a number that was handed over says whether it is natural
 pub sign-natural : {g : Sign} (z : ℤ) {n : ℕ} → g ≡ signOf z → g ≡ Natural n → nonNeg z ≡ true
-sign-natural z e f = rw (read-natural z (sym e ∙ f))
+sign-natural z e f = natural-passes z (sym e ∙ f)
 
 pub sign-negative : {g : Sign} (z : ℤ) → g ≡ signOf z → g ≡ Negative → nonNeg z ≡ false
-unfolding signOf
-sign-negative (pos n) e f = cc
-sign-negative (negsuc n) e f = refl
+sign-negative z e f = negative-fails z (sym e ∙ f)
 
 -- ---- judged indices
 

@@ -11,9 +11,9 @@ use lib.ListN.{length, getD, drop, length-map, drop-of-length-le}
 use lib.Seq.{drop-cons}
 use Rattle.rules.specs.Lists.{all, from, below, larger, largest, same}
 use Rattle.rules.specs.Shapes.{extents, commonExtent, axisAgrees, shapesAgree, commonShape, canBroadcastTo}
+use Rattle.rules.proofs.Ranges.{from-length}
 use Rattle.rules.proofs.Same.{same-true}
 use Rattle.shapes.specs.Judged.{axisStretches}
-use Rattle.shapes.proofs.Passing.{length-from}
 use Rattle.shapes.proofs.Common.{larger-zero}
 
 -- ---- one axis
@@ -95,7 +95,7 @@ module _ (to source : List ℕ) where
       by true e =
           let n : ℕ = largest (map length (to ∷ source ∷ [])) in
           let l : length (commonShape (to ∷ source ∷ [])) ≡ length to = ap length (same-true e) in
-          let m : length (commonShape (to ∷ source ∷ [])) ≡ n = length-map (below n) (λ axis. commonExtent axis (to ∷ source ∷ [])) ∙ length-from 0 n in
+          let m : length (commonShape (to ∷ source ∷ [])) ≡ n = length-map (below n) (λ axis. commonExtent axis (to ∷ source ∷ [])) ∙ from-length 0 n in
           let k : n ≡ length source = axes ∙ rw (lt-ltb (length to) (length source) h) in
           absurd (omega arith)
       by false e = sym e

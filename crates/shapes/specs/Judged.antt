@@ -2,12 +2,12 @@
 use mathlib.Core.Path.{_≡_}
 use mathlib.Core.Bool.{Bool, true, false, _&&_, _||_}
 use mathlib.Core.List.{List, map}
-use Prim.Native.Nat.{ℕ, _≤_}
+use Prim.Native.Nat.{ℕ}
 use lib.Dec.{eqb, leb}
 use lib.IntN.{ℤ}
-use lib.ListN.{length, drop}
+use lib.ListN.{length}
 use Rattle.rules.specs.Limits.{rankLimit}
-use Rattle.rules.specs.Lists.{if, all, any}
+use Rattle.rules.specs.Lists.{all, any}
 use Rattle.rules.specs.Record.{endToEnd, behindShape, shapeIn, goodShape}
 use Rattle.rules.specs.Arguments.{overShape, goodComponents}
 
@@ -27,15 +27,6 @@ shapesOf n s = map shapeIn (shapesFrom n s)
 pub record AllJudged (n : ℕ) (s : List ℤ) : Type 0 where
   pub small : any overShape (shapesFrom n s) ≡ false
   pub good : all goodShape (shapesFrom n s) ≡ true
-
--- behind the shape that begins at a place stands what stands from r on
-pub record Behind (at : ℕ) (s : List ℤ) (r : ℕ) : Type 0 where
-  pub inside : r ≤ length s
-  pub rest : drop r s ≡ behindShape (drop at s)
-
--- an extent in a product that passes over zeros
-unfoldable pub factorOf : ℕ → ℕ
-factorOf e = if (eqb e 0) 1 e
 
 -- an axis stretches from extent 1 to any but 0, and from each extent to itself
 abbrev pub axisStretches : ℕ → ℕ → Bool

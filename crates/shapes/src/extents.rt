@@ -1,16 +1,15 @@
 // One shape at the front of a slice: its count, then its extents.
 ghost use mathlib.Core.Path.{_≡_};
-ghost use mathlib.Core.Bool.{_&&_};
 ghost use Prim.Native.Nat.{_≤_};
 ghost use lib.Dec.{eqb};
 ghost use lib.ListN.{length, getD};
-ghost use lib.Signed.{nonNeg};
-ghost use Rattle.rules.specs.Lists.{all, any};
+ghost use Rattle.rules.specs.Lists.{any};
 ghost use Rattle.rules.specs.Layout.{withinProduct};
-ghost use Rattle.rules.specs.Record.{naturals, shapeIn, goodShape};
+ghost use Rattle.rules.specs.Record.{behindShape, shapeIn, goodShape};
 ghost use Rattle.rules.specs.Arguments.{overShape};
 ghost use Rattle.rules.specs.Shapes.{canBroadcastTo};
-ghost use Rattle.shapes.specs.Judged.{Judged, Behind, factorOf, axisStretches};
+ghost use Rattle.records.specs.EndToEnd.{Behind};
+ghost use Rattle.shapes.specs.Judged.{Judged, axisStretches};
 use super::numbers::natural_at;
 use rules::Section;
 
@@ -21,74 +20,25 @@ pub fn over_shape(s: &[i32]) -> bool
     4 < natural_at(s, 0)
 }
 
-// Whether no number is negative.
-fn all_natural(s: &[i32]) -> bool
-    ensures { λ r. ⌜ r ≡ all nonNeg (now (s .entry)) ⌝ }
-{
-    let mut k = 0;
-    while k < s.len() {
-        if s[k] < 0 {
-            return false;
-        }
-        k += 1;
-    }
-    true
-}
-
-// What an extent counts in a product that passes over zeros.
-fn factor(e: usize) -> usize
-    ensures { λ r. ⌜ r ≡ factorOf e ⌝ }
-{
-    if e == 0 {
-        return 1;
-    }
-    e
-}
-
-// Whether the product of the extents that are not zero is within the limit.
-fn within_limit(s: &[i32]) -> bool
-    ensures { λ r. ⌜ r ≡ withinProduct (naturals (now (s .entry))) ⌝ }
-{
-    let mut product: usize = 1;
-    let mut k = 0;
-    while k < s.len() {
-        product *= factor(natural_at(s, k));
-        if 65536 < product {
-            return false;
-        }
-        k += 1;
-    }
-    true
-}
-
-// The same of four extents by value.
+// Whether the product of those of four extents by value that are not zero is at most 65,536.
 pub fn within_product(extents: [usize; 4]) -> bool
     ensures { λ r. ⌜ r ≡ withinProduct extents ⌝ }
 {
     let mut product: usize = 1;
-    let mut k = 0;
-    while k < 4 {
-        let e = extents[k];
-        if 65536 < e {
+    for k in 0..4 {
+        let extent = extents[k];
+        if extent == 0 {
+            continue;
+        }
+        if 65536 < extent {
             return false;
         }
-        product *= factor(e);
+        product *= extent;
         if 65536 < product {
             return false;
         }
-        k += 1;
     }
     true
-}
-
-// Whether these are extents of a shape: none negative, and their product within the limit.
-fn good_extents(s: &[i32]) -> bool
-    ensures { λ r. ⌜ r ≡ (all nonNeg (now (s .entry)) && withinProduct (naturals (now (s .entry)))) ⌝ }
-{
-    if !all_natural(s) {
-        return false;
-    }
-    within_limit(s)
 }
 
 // Whether the shape obeys the extent rules.
@@ -97,8 +47,10 @@ pub fn good_shape(s: &[i32]) -> bool
 {
     match records::section_at(s, 0, 1) {
         Section::Whole(extents) => {
-            let next = extents.next;
-            good_extents(&s[1..next])
+            if !records::all_natural(s, extents.next) {
+                return false;
+            }
+            records::within_product(s, 1, extents.count)
         }
         Section::Cut => false,
     }
@@ -107,7 +59,7 @@ pub fn good_shape(s: &[i32]) -> bool
 // Where the shape that begins at a place ends; one that cannot be walked takes the rest.
 pub fn behind_shape(s: &[i32], at: usize) -> usize
     requires { ⌜ at ≤ length (now s) ⌝ }
-    ensures { λ r. ⌜ Behind at (now (s .entry)) r ⌝ }
+    ensures { λ r. ⌜ Behind behindShape at (now (s .entry)) r ⌝ }
 {
     match records::section_at(&s[at..], 0, 1) {
         Section::Whole(extents) => at + extents.next,

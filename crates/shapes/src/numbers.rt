@@ -2,8 +2,7 @@
 ghost use mathlib.Core.Path.{_≡_};
 ghost use Prim.Native.Nat.{_<_, _^_};
 ghost use lib.IntN.{pos};
-ghost use lib.ListN.{length, getD};
-ghost use Rattle.rules.specs.Limits.{componentLimit};
+ghost use lib.ListN.{getD};
 ghost use Rattle.rules.specs.Record.{natural, listCount};
 ghost use Rattle.rules.specs.Arguments.{upTo, overCount, goodComponents, goodIndex};
 ghost use Rattle.shapes.specs.Judged.{comparableIndices};
@@ -42,13 +41,15 @@ pub fn list_count(count: i32) -> usize
     }
 }
 
-// Whether the number at a place is a component: 0..65,535.
-fn good_component(s: &[i32], at: usize) -> bool
-    requires { ⌜ at < length (now s) ⌝ }
-    ensures { λ r. ⌜ r ≡ upTo componentLimit (getD (now (s .entry)) at (pos 0)) ⌝ }
+// Whether the number at a place is between 0 and a limit; where nothing stands, it is 0.
+pub fn up_to(s: &[i32], at: usize, limit: usize) -> bool
+    ensures { λ r. ⌜ r ≡ upTo limit (getD (now (s .entry)) at (pos 0)) ⌝ }
 {
+    if s.len() <= at {
+        return true;
+    }
     match cells::sign_at(s, at) {
-        Sign::Natural(n) => n <= 65535,
+        Sign::Natural(n) => n <= limit,
         Sign::Negative => false,
     }
 }
@@ -59,7 +60,7 @@ pub fn good_components(s: &[i32]) -> bool
 {
     let mut k = 0;
     while k < s.len() {
-        if !good_component(s, k) {
+        if !up_to(s, k, 65535) {
             return false;
         }
         k += 1;

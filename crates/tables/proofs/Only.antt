@@ -47,7 +47,7 @@ only-set a z s = record {
 sooner : {A : Type 0} (p q : ℕ) (s t : List A) → p ≤ q → take q t ≡ take q s → take p t ≡ take p s
 sooner p q s t h e = sym (take-take p q t h) ∙ ap (take p) e ∙ take-take p q s h
 
--- what is the same from p on is the same from q on
+-- two slices that agree behind p agree behind every later place
 later : {A : Type 0} (p q : ℕ) (s t : List A) → p ≤ q → drop p t ≡ drop p s → drop q t ≡ drop q s
 later {A} p q s t h e =
     let k : p + (q - p) ≡ q = omega arith in

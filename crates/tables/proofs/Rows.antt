@@ -6,12 +6,13 @@ use native.Mathlib.Nat.{suc-mul, zero-mul, suc-add, zero-add, mul-le-mul-right}
 use native.Mathlib.Omega.{arith}
 use lib.IntN.{ℤ}
 use lib.ListN.{length, getD, take, drop}
-use lib.Seq.{getD-take, getD-drop, take-take, drop-drop, take-at, drop-at}
+use lib.Seq.{getD-take, getD-drop, drop-drop, take-at, drop-at}
 use Rattle.rules.specs.Buffers.{part, put}
 use Rattle.rules.specs.Record.{rowsOf}
-use Rattle.rules.proofs.Buffers.{length-part, part-take, part-put-all}
+use Rattle.rules.proofs.Buffers.{length-part, part-put-all}
 use Rattle.rules.proofs.Sets.{In, each-head, each-tail}
 use Rattle.rules.proofs.Places.{in-at}
+use Rattle.rules.proofs.RowsRead.{rows-length, rows-row, rows-cut}
 use Rattle.cells.specs.View.{view}
 use Rattle.cells.proofs.View.{view-length, view-part}
 use Rattle.tables.specs.Rows.{rowAt, rowsAt, HasRow, HasRows}
@@ -42,21 +43,6 @@ lent-row a w s = let e : a + w - a ≡ w = omega arith in rw e
 pub row-ends : {i n : ℕ} (w : ℕ) → i < n → i * w + w ≤ n * w
 row-ends {i} w h = omega (arith, mul-le-mul-right w h, suc-mul i w)
 
--- there are as many as asked for
-rows-length : (w n : ℕ) (l : List ℕ) → length (rowsOf w n l) ≡ n
-unfolding rowsOf
-rows-length w zero l = refl
-rows-length w (suc n) l = ap suc (rows-length w n (drop w l))
-
--- row i is the part that starts i rows on
-rows-row : (w n i : ℕ) (l : List ℕ) → i < n → getD (rowsOf w n l) i [] ≡ part (i * w) w l
-unfolding rowsOf part
-rows-row w zero i l h = absurd (omega arith)
-rows-row w (suc n) zero l h = rw zero-mul
-rows-row w (suc n) (suc i) l h =
-    let e : w + i * w ≡ suc i * w = omega (arith, suc-mul i w) in
-    rows-row w n i (drop w l) (omega arith) ∙ rw (drop-drop (i * w) w l, e)
-
 -- some rows, and then some more
 rows-split : (w i j : ℕ) (l : List ℕ) → rowsOf w (i + j) l ≡ rowsOf w i l ++ rowsOf w j (drop (i * w) l)
 unfolding rowsOf
@@ -64,15 +50,6 @@ rows-split w zero j l = rw (zero-mul, zero-add)
 rows-split w (suc i) j l =
     let e : w + i * w ≡ suc i * w = omega (arith, suc-mul i w) in
     rw suc-add (ap (λ (t : List (List ℕ)). take w l ∷ t) (rows-split w i j (drop w l) ∙ rw (drop-drop (i * w) w l, e)))
-
--- what stands behind them does not matter
-rows-cut : (w n : ℕ) (l : List ℕ) → rowsOf w n (take (n * w) l) ≡ rowsOf w n l
-unfolding rowsOf
-rows-cut w zero l = refl
-rows-cut w (suc n) l =
-    let e : suc n * w ≡ w + n * w = omega (arith, suc-mul n w) in
-    let rest : drop w (take (w + n * w) l) ≡ take (n * w) (drop w l) = unfold part in sym (part-take w (n * w) l) in
-    rw (e, take-take w (w + n * w) l (omega arith), rest, rows-cut w n (drop w l))
 
 module _ (a w n : ℕ) (s : List ℤ) where
   -- there are as many rows as asked for

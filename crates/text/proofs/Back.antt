@@ -1,6 +1,6 @@
 -- What was written reads back as it was. Assumes nothing.
 use mathlib.Core.Path.{_≡_, refl, ap, _∙_}
-use mathlib.Core.Bool.{Bool, true, false, _&&_}
+use mathlib.Core.Bool.{Bool, true, false}
 use mathlib.Core.List.{List, [], _∷_, _++_, append-assoc, append-nil}
 use Prim.Native.Nat.{ℕ, zero, suc, _+_, _*_, _-_, _/_, _%_, _^_, _<_, _≤_}
 use native.Mathlib.Nat.{pow-suc, mod-lt, div-add-mod', div-lt-iff-lt-mul}
@@ -11,15 +11,11 @@ use lib.ListN.{length, getD, length-append}
 use lib.Signed.{mag}
 use borrow.Author.Tests.{leb-true, ltb-true, lt-ltb, le-leb, ne-eqb}
 use Rattle.rules.specs.Lists.{if, all, none}
+use Rattle.rules.proofs.Same.{both-true}
 use Rattle.text.specs.Read.{numbers, isGap, isDigit, isNumber, valueFrom, wordOf, wordEnd, both, readFrom, readText}
 use Rattle.text.specs.Written.{digitsIn, digits, numberText, restText, lineText}
 
 -- ---- digits
-
--- both tests hold
-both-true : (s t : Bool) → s && t ≡ true → (s ≡ true) × (t ≡ true)
-both-true true t e = (refl, e)
-both-true false t e = absurd (let z : _≡_ {A = ℕ} 0 1 = cc e in omega arith)
 
 module _ (b : ℕ) (h : isDigit b ≡ true) where
   from-zero : 48 ≤ b

@@ -1,5 +1,5 @@
 -- Numbers in a text: an optional minus and digits, parted by spaces and newlines, any number of them, also in front and at the end.
-use mathlib.Core.Bool.{Bool, true, false, _&&_, _||_}
+use mathlib.Core.Bool.{Bool, _&&_, _||_}
 use mathlib.Core.List.{List, [], _∷_, _++_}
 use Prim.Native.Nat.{ℕ, _+_, _*_, _-_, _^_}
 use lib.Dec.{eqb, leb}

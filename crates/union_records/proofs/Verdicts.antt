@@ -2,7 +2,7 @@
 use mathlib.Core.Path.{_≡_, refl, sym, ap, _∙_}
 use mathlib.Core.Bool.{Bool, true, false, not, _&&_, _||_}
 use mathlib.Core.List.{List, [], _∷_}
-use Prim.Native.Nat.{ℕ, _^_, _<_, _≤_}
+use Prim.Native.Nat.{ℕ, _-_, _^_, _<_, _≤_}
 use native.Mathlib.Omega.{arith}
 use borrow.Author.Tests.{lt-ltb, le-ltb}
 use lib.IntN.{ℤ, pos}
@@ -23,12 +23,12 @@ use Rattle.rules.specs.Endings.{resultAfter, writtenSays, Ends}
 use Rattle.rules.specs.Union.{union, unionCall}
 use Rattle.rules.proofs.Soundness.{Sound}
 use Rattle.rules.proofs.Encoded.{encode-short, layout-alone, sound-alone}
-use Rattle.rules.proofs.Unions.{union-sound}
+use Rattle.rules.proofs.Unions.{never, union-sound}
 use Rattle.cells.proofs.Signed.{held, back}
+use Rattle.records.proofs.EndToEnd.{to-end}
 use Rattle.text.specs.Read.{readText}
 use Rattle.text.specs.Written.{lineText}
 use Rattle.union_records.specs.Lines.{layoutText, refusedText, verdictText, unionOf, readingText, unionText}
-use Rattle.union_records.proofs.Behind.{restFrom, to-the-end}
 
 -- ---- a refusal
 
@@ -76,16 +76,12 @@ module _ (list : List ℤ) (first second : ℕ) (p : drop first list ≡ behindR
   leftover h = rw (behind-both, none-some (drop second list) (rw length-drop (omega arith)))
 
   -- without them the union is asked for
-  pub no-leftover : {a b : ℕ} → length list ≤ second → a ≡ resultSize → b ≡ workSize → unionCall list (restFrom list first) a b ≡ unionOf list
+  pub no-leftover : {a b : ℕ} → length list ≤ second → a ≡ resultSize → b ≡ workSize → unionCall list (take (length list - first) (drop first list)) a b ≡ unionOf list
   unfolding unionOf
   no-leftover h k l =
-      rw (behind-both, none-empty (drop second list) (rw length-drop (omega arith)), k, l, to-the-end list first, p)
+      rw (behind-both, none-empty (drop second list) (rw length-drop (omega arith)), k, l, to-end first list, p)
 
 -- ---- a union
-
--- no refusal is an answer
-never : {A : Type 0} {n : ℕ} {x : A} → refused n ≡ given x → ⊥
-never e = let z : _≡_ {A = ℕ} 0 1 = cc in omega arith
 
 -- what a call gives is sound
 call-sound : (s t : List ℤ) (a b : ℕ) {l : Layout} → unionCall s t a b ≡ given l → Sound l

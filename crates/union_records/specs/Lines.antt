@@ -1,5 +1,4 @@
 -- The text that a text of two records is answered with: the five lines of their union, or the line of a refusal.
-use mathlib.Core.Bool.{Bool, true, false, not}
 use mathlib.Core.List.{List, [], _∷_, _++_}
 use Prim.Native.Nat.{ℕ}
 use lib.Dec.{ltb}

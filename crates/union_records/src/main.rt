@@ -2,11 +2,10 @@
 ghost use mathlib.Core.Path.{_≡_};
 ghost use mathlib.Core.Bool.{true};
 ghost use Prim.Native.Nat.{_+_, _-_, _*_, _≤_};
-ghost use lib.IntN.{pos};
-ghost use lib.ListN.{length, drop};
+ghost use lib.ListN.{length};
 ghost use Rattle.rules.specs.Limits.{resultSize, workSize};
 ghost use Rattle.rules.specs.Refusals.{numberOf};
-ghost use Rattle.rules.specs.Record.{layoutIn, sound, behindRecord};
+ghost use Rattle.rules.specs.Record.{layoutIn, sound};
 ghost use Rattle.text.specs.Placed.{Wrote};
 ghost use Rattle.union_records.specs.Lines.{layoutText, refusedText, verdictText, unionOf, unionText};
 ghost use Rattle.union_records.specs.Fronts.{Front};
@@ -60,25 +59,14 @@ fn answer_list(list: &[i32], result: &mut [i32], work: &mut [i32], out: &mut [u8
     requires { ⌜ (length (now result) ≡ resultSize) × (length (now work) ≡ workSize) × (32768 ≤ length (now out)) ⌝ }
     ensures { λ r. ⌜ Front (verdictText (unionOf (now (list .entry)))) (now (out .exit)) r ⌝ }
 {
-    let first = record_end(list, 0);
-    let second = record_end(list, first);
+    let first = lists::behind_record(list, 0);
+    let second = lists::behind_record(list, first);
     if second < list.len() {
         return write_refusal(Refusal::Unsound, out);
     }
     match layout::union(list, &list[first..], result, work) {
         Written::Numbers(n) => write_layout(&result[..n], out),
         Written::Refused(reason) => write_refusal(reason, out),
-    }
-}
-
-// Where the record that begins at a place of a list ends; one that cannot be walked takes the rest.
-fn record_end(list: &[i32], at: usize) -> usize
-    requires { ⌜ at ≤ length (now list) ⌝ }
-    ensures { λ r. ⌜ (r ≤ length (now (list .entry))) × (drop r (now (list .entry)) ≡ behindRecord (drop at (now (list .entry)))) ⌝ }
-{
-    match records::walk_record(&list[at..]) {
-        Walk::To(head) => at + head.inputs.next,
-        Walk::Broken => list.len(),
     }
 }
 
@@ -134,7 +122,7 @@ fn write_refusal(reason: Refusal, out: &mut [u8]) -> usize
     ensures { λ r. ⌜ Front (refusedText (numberOf reason)) (now (out .exit)) r ⌝ }
 {
     let at = write_bytes(b"refused ", out);
-    let number = [number_of(reason)];
+    let number = [layout::number_of(reason)];
     text::write_line(&number, out, at)
 }
 
@@ -149,26 +137,4 @@ fn write_bytes(bytes: &[u8], out: &mut [u8]) -> usize
         i += 1;
     }
     i
-}
-
-// The number of a refusal.
-fn number_of(reason: Refusal) -> i32
-    ensures { λ r. ⌜ r ≡ pos (numberOf reason) ⌝ }
-{
-    match reason {
-        Refusal::OverCount => 1,
-        Refusal::ShortBuffer => 2,
-        Refusal::Unsound => 3,
-        Refusal::Unordered => 4,
-        Refusal::WrongArgument => 5,
-        Refusal::ShapesDisagree => 6,
-        Refusal::ScalarContracted => 7,
-        Refusal::NoPermutation => 8,
-        Refusal::SparseDivisor => 9,
-        Refusal::Unjoinable => 10,
-        Refusal::DenseAxes => 11,
-        Refusal::MadeUnsound => 12,
-        Refusal::MadeTooLarge => 13,
-        Refusal::DenseRemoved => 14,
-    }
 }

@@ -6,11 +6,11 @@ use Rattle.parts.proofs.load.Statement.{statement}
 use Rattle.parts.proofs.load.Tie as tie
 
 add-rows : tie.Need-add-rows
-add-rows c = let b = places (c .before .pre .0 .2) in omega arith
+add-rows c = let b = places (c .before .pre .0) in omega arith
 
 load-part-requires : tie.Need-load-part-requires
 load-part-requires c κs =
-    let b = places (c .before .before .pre .0 .2) in
+    let b = places (c .before .before .pre .0) in
     (omega arith, omega arith, omega arith)
 
 add-load-part : tie.Need-add-load-part
@@ -18,7 +18,7 @@ add-load-part c = search needs
 
 load-part-requires-2 : tie.Need-load-part-requires-2
 load-part-requires-2 c κs =
-    let b = places (c .before .before .before .before .before .pre .0 .2) in
+    let b = places (c .before .before .before .before .before .pre .0) in
     (omega arith, omega arith, omega arith)
 
 add-load-part-2 : tie.Need-add-load-part-2
@@ -26,7 +26,7 @@ add-load-part-2 c = search needs
 
 load-part-requires-3 : tie.Need-load-part-requires-3
 load-part-requires-3 c κs =
-    let b = places (c .before .before .before .before .before .before .before .before .pre .0 .2) in
+    let b = places (c .before .before .before .before .before .before .before .before .pre .0) in
     (omega arith, omega arith, omega arith)
 
 add-load-part-3 : tie.Need-add-load-part-3
@@ -34,7 +34,7 @@ add-load-part-3 c = search needs
 
 load-part-requires-4 : tie.Need-load-part-requires-4
 load-part-requires-4 c κs =
-    let b = places (c .before .before .before .before .before .before .before .before .before .before .before .pre .0 .2) in
+    let b = places (c .before .before .before .before .before .before .before .before .before .before .before .pre .0) in
     (omega arith, omega arith, omega arith)
 
 same-length : tie.Need-same-length
@@ -47,9 +47,8 @@ returns c =
     let rows = states .before .before .before in
     let head = rows .before .before .before in
     let start = head .before .before .before in
-    is-loaded (start .pre .0 .2) (start .args .at) _ (start .pre .1)
+    is-loaded (start .pre .0) (start .args .at) _ (start .pre .1)
     (head .load-part .ensures) (rows .load-part2 .ensures) (states .load-part3 .ensures) (inputs .load-part4 .ensures)
-    (start .pre .0 .0) (start .pre .0 .1)
 
 pub load-spec : {M : Type 1} → statement M
 load-spec =

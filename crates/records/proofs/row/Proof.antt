@@ -4,8 +4,14 @@ use Rattle.records.proofs.Answers.{rows}
 use Rattle.records.proofs.row.Statement.{statement}
 use Rattle.records.proofs.row.Tie as tie
 
-sound-requires : tie.Need-sound-requires
-sound-requires c κs = search needs
+sound-head-requires : tie.Need-sound-head-requires
+sound-head-requires c κs = search needs
+
+enum-known-h : tie.Need-enum-known-h
+enum-known-h c = search needs
+
+enum-told : tie.Need-enum-told
+enum-told c = search needs
 
 sub-result : tie.Need-sub-result
 sub-result c = search needs
@@ -19,14 +25,14 @@ part-result-end c = search needs
 returns : tie.Need-returns
 returns c = search (needs, rows)
 
-walk-record-requires : tie.Need-walk-record-requires
-walk-record-requires c κs = search needs
+sign-of-requires : tie.Need-sign-of-requires
+sign-of-requires c κs = search needs
 
-enum-known-h : tie.Need-enum-known-h
-enum-known-h c = search needs
+enum-known-i : tie.Need-enum-known-i
+enum-known-i c = search needs
 
-enum-told : tie.Need-enum-told
-enum-told c = search needs
+enum-told-2 : tie.Need-enum-told-2
+enum-told-2 c = search needs
 
 sub-result-2 : tie.Need-sub-result-2
 sub-result-2 c = search needs
@@ -40,55 +46,29 @@ part-result-end-2 c = search needs
 returns-2 : tie.Need-returns-2
 returns-2 c = search (needs, rows)
 
-sign-of-requires : tie.Need-sign-of-requires
-sign-of-requires c κs = search needs
-
-enum-known-i : tie.Need-enum-known-i
-enum-known-i c = search needs
-
-enum-told-2 : tie.Need-enum-told-2
-enum-told-2 c = search needs
-
-sub-result-3 : tie.Need-sub-result-3
-sub-result-3 c = search needs
-
-part-result-start-3 : tie.Need-part-result-start-3
-part-result-start-3 c = search needs
-
-part-result-end-3 : tie.Need-part-result-end-3
-part-result-end-3 c = search needs
-
-returns-3 : tie.Need-returns-3
-returns-3 c = search (needs, rows)
-
 row-of-requires : tie.Need-row-of-requires
 row-of-requires c κs = search (needs, rows)
 
-returns-4 : tie.Need-returns-4
-returns-4 c = search (needs, rows)
+returns-3 : tie.Need-returns-3
+returns-3 c = search (needs, rows)
 
 pub row-spec : {M : Type 1} → statement M
 row-spec =
     tie.close
     (tie.spec
-    sound-requires
+    sound-head-requires
+    enum-known-h
+    enum-told
     sub-result
     part-result-start
     part-result-end
     returns
-    walk-record-requires
-    enum-known-h
-    enum-told
+    sign-of-requires
+    enum-known-i
+    enum-told-2
     sub-result-2
     part-result-start-2
     part-result-end-2
     returns-2
-    sign-of-requires
-    enum-known-i
-    enum-told-2
-    sub-result-3
-    part-result-start-3
-    part-result-end-3
-    returns-3
     row-of-requires
-    returns-4)
+    returns-3)

@@ -1,31 +1,28 @@
--- `sound`: a record is sound by the head that was read, and not sound where none was.
-use mathlib.Core.Path.{refl}
+-- `sound`: a record with a head is sound, and one without is not.
+use mathlib.Core.Path.{refl, sym}
 use borrow.Author.Needs.{needs}
 use Rattle.rules.proofs.Same.{true-not-false}
-use Rattle.records.proofs.Answers.{plain-record, walked}
+use Rattle.records.proofs.SoundRecords.{no-head, sound-record, plain-record}
 use Rattle.records.proofs.sound.Statement.{statement}
 use Rattle.records.proofs.sound.Tie as tie
 
-walk-record-requires : tie.Need-walk-record-requires
-walk-record-requires c κs = search needs
-
-enum-known-h : tie.Need-enum-known-h
-enum-known-h c = search needs
-
-sound-by-requires : tie.Need-sound-by-requires
-sound-by-requires c κs = search (needs, walked)
+sound-head-requires : tie.Need-sound-head-requires
+sound-head-requires c κs = search needs
 
 enum-told : tie.Need-enum-told
 enum-told c = search needs
 
+enum-told-2 : tie.Need-enum-told-2
+enum-told-2 c = search needs
+
 returns : tie.Need-returns
 returns c =
-    (search (needs, walked), λ e. plain-record _ (c .before .before .before .before .walk-record .ensures) (c .before .before .h .given .1) (c .sound-by .ensures .1 e))
+    let read = c .before .before in
+    let r = sound-record _ (read .sound-head .ensures .0) (read .sound-head .ensures .1) (c .enum-told .given .1) in
+    (sym (r .judged), λ e. plain-record r)
 
 returns-2 : tie.Need-returns-2
-returns-2 c = (search (needs, walked), λ e. absurd (true-not-false e refl))
+returns-2 c = (sym (search no-head), λ e. absurd (true-not-false e refl))
 
 pub sound-spec : {M : Type 1} → statement M
-sound-spec =
-    tie.close
-    (tie.spec walk-record-requires enum-known-h sound-by-requires enum-told returns returns-2)
+sound-spec = tie.close (tie.spec sound-head-requires enum-told enum-told-2 returns returns-2)

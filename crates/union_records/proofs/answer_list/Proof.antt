@@ -10,11 +10,11 @@ use Rattle.union_records.proofs.Verdicts.{leftover, no-leftover, union-
 use Rattle.union_records.proofs.answer_list.Statement.{statement}
 use Rattle.union_records.proofs.answer_list.Tie as tie
 
-record-end-requires : tie.Need-record-end-requires
-record-end-requires c κs = search needs
+behind-record-requires : tie.Need-behind-record-requires
+behind-record-requires c κs = search needs
 
-record-end-requires-2 : tie.Need-record-end-requires-2
-record-end-requires-2 c κs = search needs
+behind-record-requires-2 : tie.Need-behind-record-requires-2
+behind-record-requires-2 c κs = search needs
 
 write-refusal-requires : tie.Need-write-refusal-requires
 write-refusal-requires c κs = search needs
@@ -30,7 +30,7 @@ returns c =
     let second = test .before in
     let first = second .before in
     let start = first .before .before in
-    rw (leftover (start .args .list .now) (first .record-end .result) (second .record-end2 .result) (first .record-end .ensures .1) (second .record-end2 .ensures .1) (test .if1 .taken)) (written .write-refusal .ensures)
+    rw (leftover (start .args .list .now) (first .behind-record .result) (second .behind-record2 .result) (first .behind-record .ensures .rest) (second .behind-record2 .ensures .rest) (test .if1 .taken)) (written .write-refusal .ensures)
 
 mul-union : tie.Need-mul-union
 mul-union c = search needs
@@ -95,7 +95,7 @@ returns-2 c =
     let second = test .before in
     let first = second .before in
     let start = first .before .before in
-    let asked = no-leftover (start .args .list .now) (first .record-end .result) (second .record-end2 .result) (first .record-end .ensures .1) (second .record-end2 .ensures .1) (test .if1 .left) (start .pre .0) (start .pre .1) in
+    let asked = no-leftover (start .args .list .now) (first .behind-record .result) (second .behind-record2 .result) (first .behind-record .ensures .rest) (second .behind-record2 .ensures .rest) (test .if1 .left) (start .pre .0) (start .pre .1) in
     let h = union-held _ _ _ _ (union .union .ensures) (numbers .n .given .1) in
     front-is (held-text h ∙ ap verdictText asked) (written .write-layout .ensures)
 
@@ -117,7 +117,7 @@ returns-3 c =
     let second = test .before in
     let first = second .before in
     let start = first .before .before in
-    let asked = no-leftover (start .args .list .now) (first .record-end .result) (second .record-end2 .result) (first .record-end .ensures .1) (second .record-end2 .ensures .1) (test .if1 .left) (start .pre .0) (start .pre .1) in
+    let asked = no-leftover (start .args .list .now) (first .behind-record .result) (second .behind-record2 .result) (first .behind-record .ensures .rest) (second .behind-record2 .ensures .rest) (test .if1 .left) (start .pre .0) (start .pre .1) in
     let why = union-why _ _ _ _ (union .union .ensures) (reason .reason .given .1) in
     front-is (why ∙ ap verdictText asked) (written .write-refusal2 .ensures)
 
@@ -125,8 +125,8 @@ pub answer-list-spec : {M : Type 1} → statement M
 answer-list-spec =
     tie.close
     (tie.spec
-    record-end-requires
-    record-end-requires-2
+    behind-record-requires
+    behind-record-requires-2
     write-refusal-requires
     same-length
     returns

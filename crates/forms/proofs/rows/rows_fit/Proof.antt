@@ -1,6 +1,6 @@
 -- `rows_fit`: natural, inside the shape and all different, in turn.
-use Rattle.forms.proofs.Fitting.{rows-there, fits}
 use borrow.Author.Needs.{needs}
+use Rattle.forms.proofs.Fitting.{rows-there, rows-within, fits}
 use Rattle.forms.proofs.rows.rows_fit.Statement.{statement}
 use Rattle.forms.proofs.rows.rows_fit.Tie as tie
 
@@ -22,11 +22,17 @@ rows-inside-requires c κs = search (needs, fits)
 returns-3 : tie.Need-returns-3
 returns-3 c = search (needs, fits)
 
-all-differ-requires : tie.Need-all-differ-requires
-all-differ-requires c κs =
+rows-differ-requires : tie.Need-rows-differ-requires
+rows-differ-requires c κs =
     let natural = c .before .before in
-    let axes = natural .before .before .before in
-    rows-there _ _ _ (axes .before .pre .1) (axes .rank .ensures .0) (natural .before .all-natural .ensures .1) (natural .if2 .left)
+    let some = natural .before .before in
+    let axes = some .before in
+    let given = axes .before .pre in
+    let wide = axes .rank .ensures .0 in
+    let told = natural .before .all-natural .ensures in
+    let inside = c .before .rows-inside .ensures in
+    let none = natural .if2 .left in
+    (rows-within _ _ _ (given .1) wide (told .0) (some .if1 .left) none inside (given .0) (c .if3 .left), rows-there _ _ _ (given .1) wide (told .1) none)
 
 returns-4 : tie.Need-returns-4
 returns-4 c = search (needs, fits)
@@ -41,5 +47,5 @@ rows-fit-spec =
     returns-2
     rows-inside-requires
     returns-3
-    all-differ-requires
+    rows-differ-requires
     returns-4)

@@ -2,10 +2,10 @@
 use Prim.Native.Nat.{ℕ}
 use Rattle.layout.proofs.Judged.{judged}
 use Rattle.layout.proofs.Results.{ends-refused, ends-stepped, results}
-use Rattle.layout.proofs.SoundRecords.{broken-unsound}
+use Rattle.layout.proofs.SoundRecords.{heads}
 use Rattle.layout.proofs.constructors.to_data_layout.Statement.{statement}
 use Rattle.layout.proofs.constructors.to_data_layout.Tie as tie
-use Rattle.lookups.proofs.SoundRecords.{sound-record}
+use Rattle.records.proofs.SoundRecords.{sound-record}
 use Rattle.rules.specs.CountsAndForms.{toDataLayout, fromRecord, toDataLayoutCall}
 use Rattle.rules.specs.Record.{layoutIn}
 use Rattle.rules.specs.Refusals.{Verdict, given, numberOf}
@@ -31,8 +31,8 @@ returns-2 : tie.Need-returns-2
 unfolding toDataLayoutCall numberOf
 returns-2 c = ends-refused (map pos) (call (c .before .before .before)) ShortBuffer (search (judged, results))
 
-walk-record-requires : tie.Need-walk-record-requires
-walk-record-requires c κs = search needs
+sound-head-requires : tie.Need-sound-head-requires
+sound-head-requires c κs = search needs
 
 enum-known-head : tie.Need-enum-known-head
 enum-known-head c = search needs
@@ -42,14 +42,7 @@ enum-told c = search needs
 
 returns-3 : tie.Need-returns-3
 unfolding toDataLayoutCall numberOf
-returns-3 c = ends-refused (map pos) (call (c .before .before .before .before .before .before)) Unsound (search (judged, results, broken-unsound))
-
-sound-requires : tie.Need-sound-requires
-sound-requires c κs = search needs
-
-returns-4 : tie.Need-returns-4
-unfolding toDataLayoutCall numberOf
-returns-4 c = ends-refused (map pos) (call (c .before .before .before .before .before .before .before .before .before)) Unsound (search (judged, results))
+returns-3 c = ends-refused (map pos) (call (c .before .before .before .before .before .before)) Unsound (search (judged, results, heads))
 
 to-data-layout-requires : tie.Need-to-data-layout-requires
 to-data-layout-requires c κs = (search sound-record, search needs)
@@ -57,11 +50,11 @@ to-data-layout-requires c κs = (search sound-record, search needs)
 same-length : tie.Need-same-length
 same-length c = search needs
 
-returns-5 : tie.Need-returns-5
+returns-4 : tie.Need-returns-4
 unfolding toDataLayoutCall numberOf
-returns-5 c =
-    let start = c .before .before .before .before .before .before .before .before .before .before .before .before in
-    ends-stepped (map pos) (call start) (given (toDataLayout (layoutIn (now (start .args .«record»))))) (c .before .to-data-layout .ensures) (search (judged, results))
+returns-4 c =
+    let start = c .before .before .before .before .before .before .before .before .before .before in
+    ends-stepped (map pos) (call start) (given (toDataLayout (layoutIn (now (start .args .«record»))))) (c .before .to-data-layout .ensures) (search (judged, results, heads))
 
 pub to-data-layout-spec : {M : Type 1} → statement M
 to-data-layout-spec =
@@ -70,12 +63,10 @@ to-data-layout-spec =
     over-record-requires
     returns
     returns-2
-    walk-record-requires
+    sound-head-requires
     enum-known-head
     enum-told
     returns-3
-    sound-requires
-    returns-4
     to-data-layout-requires
     same-length
-    returns-5)
+    returns-4)

@@ -1,10 +1,10 @@
 -- `to_dense`: by the first reason that holds.
 use Rattle.layout.proofs.Judged.{judged}
 use Rattle.layout.proofs.Results.{ends-refused, ends-stepped, results}
-use Rattle.layout.proofs.SoundRecords.{broken-unsound}
+use Rattle.layout.proofs.SoundRecords.{heads}
 use Rattle.layout.proofs.constructors.to_dense.Statement.{statement}
 use Rattle.layout.proofs.constructors.to_dense.Tie as tie
-use Rattle.lookups.proofs.SoundRecords.{sound-record}
+use Rattle.records.proofs.SoundRecords.{sound-record}
 use Rattle.rules.specs.CountsAndForms.{toDense, toDenseCall}
 use Rattle.rules.specs.Layout.{Layout, encode}
 use Rattle.rules.specs.Record.{layoutIn}
@@ -29,8 +29,8 @@ returns-2 : tie.Need-returns-2
 unfolding toDenseCall numberOf
 returns-2 c = ends-refused encode (call (c .before .before .before)) ShortBuffer (search (judged, results))
 
-walk-record-requires : tie.Need-walk-record-requires
-walk-record-requires c κs = search needs
+sound-head-requires : tie.Need-sound-head-requires
+sound-head-requires c κs = search needs
 
 enum-known-head : tie.Need-enum-known-head
 enum-known-head c = search needs
@@ -40,14 +40,7 @@ enum-told c = search needs
 
 returns-3 : tie.Need-returns-3
 unfolding toDenseCall numberOf
-returns-3 c = ends-refused encode (call (c .before .before .before .before .before .before)) Unsound (search (judged, results, broken-unsound))
-
-sound-requires : tie.Need-sound-requires
-sound-requires c κs = search needs
-
-returns-4 : tie.Need-returns-4
-unfolding toDenseCall numberOf
-returns-4 c = ends-refused encode (call (c .before .before .before .before .before .before .before .before .before)) Unsound (search (judged, results))
+returns-3 c = ends-refused encode (call (c .before .before .before .before .before .before)) Unsound (search (judged, results, heads))
 
 to-dense-requires : tie.Need-to-dense-requires
 to-dense-requires c κs = (search sound-record, search needs)
@@ -55,11 +48,11 @@ to-dense-requires c κs = (search sound-record, search needs)
 same-length : tie.Need-same-length
 same-length c = search needs
 
-returns-5 : tie.Need-returns-5
+returns-4 : tie.Need-returns-4
 unfolding toDenseCall numberOf
-returns-5 c =
-    let start = c .before .before .before .before .before .before .before .before .before .before .before .before in
-    ends-stepped encode (call start) (given (toDense (layoutIn (now (start .args .«record»))))) (c .before .to-dense .ensures) (search (judged, results))
+returns-4 c =
+    let start = c .before .before .before .before .before .before .before .before .before .before in
+    ends-stepped encode (call start) (given (toDense (layoutIn (now (start .args .«record»))))) (c .before .to-dense .ensures) (search (judged, results, heads))
 
 pub to-dense-spec : {M : Type 1} → statement M
 to-dense-spec =
@@ -68,12 +61,10 @@ to-dense-spec =
     over-record-requires
     returns
     returns-2
-    walk-record-requires
+    sound-head-requires
     enum-known-head
     enum-told
     returns-3
-    sound-requires
-    returns-4
     to-dense-requires
     same-length
-    returns-5)
+    returns-4)

@@ -1,17 +1,19 @@
 -- `min_rank`: by the first reason that holds.
+use borrow.Author.Needs.{needs}
 use denote.Ref.{now}
 use Rattle.rules.specs.CountsAndForms.{minRankCall}
 use Rattle.rules.specs.Refusals.{numberOf}
-use Rattle.lookups.proofs.SoundRecords.{HasHead, has-head, lent-judged, lent-inside}
+use Rattle.records.specs.Sound.{SoundRecord}
+use Rattle.records.proofs.SoundRecords.{sound-record}
+use Rattle.lookups.proofs.SoundRecords.{lent-judged, lent-inside}
 use Rattle.layout.proofs.Judged.{judged}
-use Rattle.layout.proofs.SoundRecords.{min-rank-read}
-use borrow.Author.Needs.{needs}
+use Rattle.layout.proofs.SoundRecords.{heads, min-rank-read}
 use Rattle.layout.proofs.counts.min_rank.Statement.{statement}
 use Rattle.layout.proofs.counts.min_rank.Tie as tie
 
--- the record was judged
-head : (c : tie.Else2) → HasHead (now (c .before .before .before .before .args .«record»))
-head c = has-head _ (c .before .sound .ensures .0) (c .before .sound .ensures .1) (c .if2 .left)
+-- the record is sound
+sound : (c : tie.After-enum-told) → SoundRecord (c .enum-told .given .0 .0) (now (c .before .before .before .before .before .args .«record»))
+sound c = let read = c .before .before in sound-record _ (read .sound-head .ensures .0) (read .sound-head .ensures .1) (c .enum-told .given .1)
 
 over-record-requires : tie.Need-over-record-requires
 over-record-requires c κs = search needs
@@ -20,30 +22,35 @@ returns : tie.Need-returns
 unfolding minRankCall numberOf
 returns c = search judged
 
-sound-requires : tie.Need-sound-requires
-sound-requires c κs = search needs
+sound-head-requires : tie.Need-sound-head-requires
+sound-head-requires c κs = search needs
+
+enum-told : tie.Need-enum-told
+enum-told c = search needs
+
+enum-told-2 : tie.Need-enum-told-2
+enum-told-2 c = search needs
 
 returns-2 : tie.Need-returns-2
 unfolding minRankCall numberOf
-returns-2 c = search judged
+returns-2 c = search (judged, heads)
 
 sub-min-rank : tie.Need-sub-min-rank
-sub-min-rank c = lent-inside (head c .is)
+sub-min-rank c = lent-inside (sound c)
 
 part-min-rank-start : tie.Need-part-min-rank-start
-part-min-rank-start c = let inside = lent-inside (head c .is) in search needs
+part-min-rank-start c = let inside = lent-inside (sound c) in search needs
 
 part-min-rank-end : tie.Need-part-min-rank-end
 part-min-rank-end c = search needs
 
 min-rank-requires : tie.Need-min-rank-requires
-min-rank-requires c κs = lent-judged (head (c .before) .is)
+min-rank-requires c κs = lent-judged (sound (c .before))
 
 returns-3 : tie.Need-returns-3
 unfolding minRankCall numberOf
-returns-3 c =
-    let same = min-rank-read (head (c .before .before)) (c .min-rank .ensures) in
-    search judged
+returns-3 c = let same = min-rank-read (sound (c .before .before)) (c .min-rank .ensures) in
+    search (judged, heads)
 
 pub min-rank-spec : {M : Type 1} → statement M
 min-rank-spec =
@@ -51,7 +58,9 @@ min-rank-spec =
     (tie.spec
     over-record-requires
     returns
-    sound-requires
+    sound-head-requires
+    enum-told
+    enum-told-2
     returns-2
     sub-min-rank
     part-min-rank-start

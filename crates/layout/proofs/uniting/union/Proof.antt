@@ -1,7 +1,7 @@
 -- `union`: what was judged, both records loaded, the union made, and the end of the call.
 use native.Mathlib.Omega.{arith}
 use borrow.Author.Needs.{needs}
-use Rattle.layout.proofs.Loaded.{pair-early, pair-late, pair-heads, readable, both-loaded}
+use Rattle.layout.proofs.Loaded.{pair-early, pair-late, pair-heads, both-loaded}
 use Rattle.layout.proofs.Unions.{union-early, union-late, union-asked, union-done}
 use Rattle.layout.proofs.uniting.union.Statement.{statement}
 use Rattle.layout.proofs.uniting.union.Tie as tie
@@ -18,14 +18,14 @@ load-requires : tie.Need-load-requires
 load-requires c κs =
     let first = c .before .before in
     let read = pair-heads _ _ _ _ (first .before .before .judge-pair .ensures) (first .first .given .1) in
-    (readable (read .first), omega (arith, read .work-long))
+    (read .first, omega (arith, read .work-long))
 
 load-requires-2 : tie.Need-load-requires-2
 load-requires-2 c κs =
     let loaded = c .before .before in
     let first = loaded .before .before .before in
     let read = pair-heads _ _ _ _ (first .before .before .judge-pair .ensures) (first .first .given .1) in
-    (readable (read .second), omega (arith, read .work-long, loaded .load .ensures .only .size))
+    (read .second, omega (arith, read .work-long, loaded .load .ensures .only .size))
 
 union-in-requires : tie.Need-union-in-requires
 union-in-requires c κs =

@@ -1,14 +1,13 @@
 -- `any_zero`: none of the extents before the axis is zero.
 use Prim.Native.Nat.{_-_}
-use lib.Dec.{eqb}
 use borrow.Author.Needs.{needs}
 use Rattle.rules.specs.Record.{shapeIn}
-use Rattle.shapes.proofs.Passing.{AnyFrom, zero-laws}
+use Rattle.shapes.proofs.Passing.{NoZero, zero-laws}
 use Rattle.shapes.proofs.extents.any_zero.Statement.{statement}
 use Rattle.shapes.proofs.extents.any_zero.Tie as tie
 
 abbrev Inv-loop : tie.InvT-loop
-Inv-loop s axes axis₀ axis = AnyFrom (eqb 0) (shapeIn s) axis
+Inv-loop s axes axis₀ axis = NoZero axes axis (shapeIn s)
 
 abbrev μ-loop : tie.MeasureT-loop
 μ-loop s axes axis₀ axis = axes - axis

@@ -1,4 +1,4 @@
--- `good_shape`: by the section of its extents.
+-- `good_shape`: by the section of its extents, their signs and their product.
 use borrow.Author.Needs.{needs}
 use Rattle.shapes.proofs.Judging.{good-laws}
 use Rattle.shapes.proofs.extents.good_shape.Statement.{statement}
@@ -10,26 +10,23 @@ section-at-requires c κs = search needs
 enum-known-extents : tie.Need-enum-known-extents
 enum-known-extents c = search needs
 
-sub-good-extents : tie.Need-sub-good-extents
-sub-good-extents c = search (needs, good-laws)
-
-part-good-extents-start : tie.Need-part-good-extents-start
-part-good-extents-start c = search (needs, good-laws)
-
-part-good-extents-end : tie.Need-part-good-extents-end
-part-good-extents-end c = search (needs, good-laws)
-
-good-extents-requires : tie.Need-good-extents-requires
-good-extents-requires c κs = search needs
-
-enum-told : tie.Need-enum-told
-enum-told c = search needs
+all-natural-requires : tie.Need-all-natural-requires
+all-natural-requires c κs = search (needs, good-laws)
 
 returns : tie.Need-returns
 returns c = search (needs, good-laws)
 
+within-product-requires : tie.Need-within-product-requires
+within-product-requires c κs = search (needs, good-laws)
+
+enum-told : tie.Need-enum-told
+enum-told c = search needs
+
 returns-2 : tie.Need-returns-2
 returns-2 c = search (needs, good-laws)
+
+returns-3 : tie.Need-returns-3
+returns-3 c = search (needs, good-laws)
 
 pub good-shape-spec : {M : Type 1} → statement M
 good-shape-spec =
@@ -37,10 +34,9 @@ good-shape-spec =
     (tie.spec
     section-at-requires
     enum-known-extents
-    sub-good-extents
-    part-good-extents-start
-    part-good-extents-end
-    good-extents-requires
-    enum-told
+    all-natural-requires
     returns
-    returns-2)
+    within-product-requires
+    enum-told
+    returns-2
+    returns-3)

@@ -1,14 +1,16 @@
 -- `axis_agrees`: all before those that are left agree.
 use lib.ListN.{drop}
 use borrow.Author.Needs.{needs}
+use Rattle.rules.specs.Record.{behindShape}
+use Rattle.records.proofs.EndToEnd.{AllLeft, all-left}
 use Rattle.shapes.specs.Judged.{AllJudged}
 use Rattle.shapes.proofs.Common.{agreesAt, agrees-there, agrees-is}
-use Rattle.shapes.proofs.Walking.{AllLeft, all-left, judged-laws}
+use Rattle.shapes.proofs.Walking.{judged-laws}
 use Rattle.shapes.proofs.lists.axis_agrees.Statement.{statement}
 use Rattle.shapes.proofs.lists.axis_agrees.Tie as tie
 
 abbrev Inv-loop : tie.InvT-loop
-Inv-loop s n axis common left₀ at₀ left at = AllLeft (agreesAt axis common) n s left at × AllJudged left (drop at s)
+Inv-loop s n axis common left₀ at₀ left at = AllLeft behindShape (agreesAt axis common) n s left at × AllJudged left (drop at s)
 
 abbrev μ-loop : tie.MeasureT-loop
 μ-loop s n axis common left₀ at₀ left at = left

@@ -1,12 +1,12 @@
 -- `good_shapes`: all before those that are left are good.
 use borrow.Author.Needs.{needs}
-use Rattle.rules.specs.Record.{goodShape}
-use Rattle.shapes.proofs.Walking.{AllLeft, all-left}
+use Rattle.rules.specs.Record.{behindShape, goodShape}
+use Rattle.records.proofs.EndToEnd.{AllLeft, all-left}
 use Rattle.shapes.proofs.lists.good_shapes.Statement.{statement}
 use Rattle.shapes.proofs.lists.good_shapes.Tie as tie
 
 abbrev Inv-loop : tie.InvT-loop
-Inv-loop s n left₀ at₀ left at = AllLeft goodShape n s left at
+Inv-loop s n left₀ at₀ left at = AllLeft behindShape goodShape n s left at
 
 abbrev μ-loop : tie.MeasureT-loop
 μ-loop s n left₀ at₀ left at = left

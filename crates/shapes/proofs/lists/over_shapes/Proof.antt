@@ -1,12 +1,13 @@
 -- `over_shapes`: none before those that are left is over.
 use borrow.Author.Needs.{needs}
+use Rattle.rules.specs.Record.{behindShape}
 use Rattle.rules.specs.Arguments.{overShape}
-use Rattle.shapes.proofs.Walking.{AnyLeft, any-left}
+use Rattle.records.proofs.EndToEnd.{AnyLeft, any-left}
 use Rattle.shapes.proofs.lists.over_shapes.Statement.{statement}
 use Rattle.shapes.proofs.lists.over_shapes.Tie as tie
 
 abbrev Inv-loop : tie.InvT-loop
-Inv-loop s n left₀ at₀ left at = AnyLeft overShape n s left at
+Inv-loop s n left₀ at₀ left at = AnyLeft behindShape overShape n s left at
 
 abbrev μ-loop : tie.MeasureT-loop
 μ-loop s n left₀ at₀ left at = left

@@ -3,14 +3,15 @@ use Prim.Native.Nat.{_-_}
 use borrow.Author.Needs.{needs}
 use Rattle.rules.specs.Lists.{below}
 use Rattle.rules.specs.Shapes.{axisAgrees}
+use Rattle.records.proofs.Passing.{Passed}
 use Rattle.shapes.specs.Judged.{shapesOf}
 use Rattle.shapes.proofs.Common.{agree-is}
-use Rattle.shapes.proofs.Passing.{AllFrom, below-laws}
+use Rattle.shapes.proofs.Passing.{below-laws}
 use Rattle.shapes.proofs.lists.shapes_agree.Statement.{statement}
 use Rattle.shapes.proofs.lists.shapes_agree.Tie as tie
 
 abbrev Inv-loop : tie.InvT-loop
-Inv-loop s n axes axis₀ axis = AllFrom (λ a. axisAgrees a (shapesOf n s)) (below axes) axis
+Inv-loop s n axes axis₀ axis = Passed (λ a. axisAgrees a (shapesOf n s)) axes axis (below axes)
 
 abbrev μ-loop : tie.MeasureT-loop
 μ-loop s n axes axis₀ axis = axes - axis

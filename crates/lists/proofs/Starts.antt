@@ -1,0 +1,140 @@
+-- Where blocks start, gathered one after the other. Assumes nothing.
+use mathlib.Core.Path.{_≡_, refl, sym, _∙_}
+use mathlib.Core.Bool.{Bool, true, false}
+use mathlib.Core.List.{List, [], _∷_, map}
+use Prim.Native.Nat.{ℕ, zero, suc, _+_, _-_, _<_, _≤_}
+use native.Mathlib.Omega.{arith}
+use borrow.Author.Tests.{leb-true, ltb-true, ltb-false}
+use lib.Dec.{leb, ltb}
+use lib.IntN.{ℤ, pos, negsuc}
+use lib.ListN.{length, getD, take, drop, set, replicate, length-map, length-take, List·getD-eq-default}
+use lib.Seq.{take-nil, getD-take, ext-getD}
+use Rattle.rules.specs.Lists.{all}
+use Rattle.rules.specs.Record.{natural, naturals, endToEnd, RawBlock, blockAt, behindBlock}
+use Rattle.rules.specs.Arguments.{upTo, goodEnd, goodFlag}
+use Rattle.rules.specs.Concatenate.{goodBlock}
+use Rattle.rules.proofs.Same.{both-true}
+use Rattle.records.specs.EndToEnd.{Behind}
+use Rattle.records.proofs.Sections.{other-default}
+use Rattle.records.proofs.EndToEnd.{to-end, length-end-to-end, Reached, reached-start, reached-turn, reached-here}
+use Rattle.shapes.proofs.Reading.{natural-getD}
+use Rattle.lists.specs.Starts.{blocksFrom, startsIn, StartOf, StartsOf}
+use Rattle.lists.proofs.Entering.{Entered, same-entry, entered-none, entered-more}
+
+-- ---- one start
+
+-- the first k numbers of a start stand in its array
+pub record StartTo (rank : ℕ) (s : List ℤ) (k : ℕ) (out : List ℕ) : Type 0 where
+  pub upto : k ≤ rank
+  pub few : rank ≤ 4
+  pub entered : Entered (λ j v. v ≡ natural (getD s j (pos 0))) 4 0 k out
+
+module _ {rank : ℕ} {s : List ℤ} where
+  pub start-none : rank ≤ 4 → StartTo rank s 0 (replicate 4 0)
+  start-none h = record { upto = omega arith; few = h; entered = entered-none }
+
+  module _ {k : ℕ} {out : List ℕ} (p : StartTo rank s k out) where
+    pub start-more : {v : ℕ} → k < rank → v ≡ natural (getD s k (pos 0)) → StartTo rank s (k + 1) (set out k v)
+    start-more h e = record { upto = omega arith; few = p .few; entered = entered-more (p .entered) (omega arith) e }
+
+    pub start-done : rank ≤ k → StartOf (naturals (blockAt rank s .start)) out
+    unfolding blockAt
+    start-done h = record { size = p .entered .size; numbers = λ j. by j (ltb j rank) refl }
+      where
+        by : (j : ℕ) (t : Bool) → ltb j rank ≡ t → getD out j 0 ≡ getD (naturals (take rank s)) j 0
+        by j true e =
+            let l : j < rank = ltb-true j rank e in
+            p .entered .done j (omega arith) ∙ rw (natural-getD (take rank s) j, getD-take rank s j (pos 0) l)
+        by j false e =
+            let l : rank ≤ j = ltb-false j rank e in
+            let short : length (naturals (take rank s)) ≤ j = rw (length-map, length-take) (omega arith) in
+            p .entered .rest j (omega arith) ∙ sym (List·getD-eq-default (naturals (take rank s)) 0 short)
+
+pub ruleset start-laws = (start-none, start-more, start-done)
+
+-- ---- all of them
+
+-- the start of a block is read at the slice at which the block begins
+starts-at : (rank b : ℕ) (l : List (List ℤ)) →
+    getD (startsIn (map (blockAt rank) l)) b [] ≡ naturals (blockAt rank (getD l b []) .start)
+unfolding blockAt
+starts-at rank b [] = rw take-nil
+starts-at rank zero (x ∷ l) = refl
+starts-at rank (suc b) (x ∷ l) = starts-at rank b l
+
+-- behind the last block there is none
+starts-behind : (rank n b : ℕ) (s : List ℤ) → n ≤ b → getD (startsIn (blocksFrom rank n s)) b [] ≡ []
+starts-behind rank n b s h =
+    List·getD-eq-default (startsIn (blocksFrom rank n s)) [] (simp (length-map, length-end-to-end) h)
+
+-- four zeros are a start of no numbers
+no-start : StartOf [] (replicate 4 0)
+no-start = record { size = refl; numbers = λ k. same-entry 4 k 0 }
+
+-- the numbers of good starts are small
+ends-low : (l : List ℤ) → all goodEnd l ≡ true → (k : ℕ) → getD (naturals l) k 0 ≤ 65536
+unfolding all upTo natural
+ends-low [] e k = omega arith
+ends-low (pos n ∷ l) e zero = leb-true n 65536 (both-true (leb n 65536) (all goodEnd l) e .0)
+ends-low (negsuc n ∷ l) e zero = omega arith
+ends-low (z ∷ l) e (suc k) = ends-low l (both-true (goodEnd z) (all goodEnd l) e .1) k
+
+starts-low : (blocks : List RawBlock) → all goodBlock blocks ≡ true → (b k : ℕ) → getD (getD (startsIn blocks) b []) k 0 ≤ 65536
+unfolding all
+starts-low [] e b k = omega arith
+starts-low (x ∷ l) e zero k =
+    ends-low (x .start) (both-true (all goodEnd (x .start)) (goodFlag (x .flag)) (both-true (goodBlock x) (all goodBlock l) e .0) .0) k
+starts-low (x ∷ l) e (suc b) k = starts-low l (both-true (goodBlock x) (all goodBlock l) e .1) b k
+
+-- the starts of the first b blocks are known, and the next block begins at a place
+pub record StartsTo (rank n : ℕ) (s : List ℤ) (b at : ℕ) (out : List (List ℕ)) : Type 0 where
+  pub few : n ≤ 16
+  pub narrow : rank ≤ 4
+  pub reached : Reached (behindBlock rank) n s b at
+  pub entered : Entered (λ j v. StartOf (getD (startsIn (blocksFrom rank n s)) j []) v) 16 (replicate 4 0) b out
+
+module _ {rank n : ℕ} {s : List ℤ} where
+  pub starts-none : n ≤ 16 → rank ≤ 4 → StartsTo rank n s 0 0 (replicate 16 (replicate 4 0))
+  starts-none h k = record { few = h; narrow = k; reached = reached-start; entered = entered-none }
+
+  module _ {b at : ℕ} {out : List (List ℕ)} (p : StartsTo rank n s b at out) where
+    pub starts-more : {at′ : ℕ} {v : List ℕ} → b < n → StartOf (naturals (blockAt rank (take (length s - at) (drop at s)) .start)) v →
+        Behind (behindBlock rank) at s at′ → StartsTo rank n s (b + 1) at′ (set out b v)
+    starts-more {v = v} h f k =
+        let here = reached-here (p .reached) h in
+        let right : StartOf (getD (startsIn (blocksFrom rank n s)) b []) v =
+        rw (starts-at rank b (endToEnd (behindBlock rank) n s), ← here, ← to-end at s) f in
+        record {
+          few = p .few;
+          narrow = p .narrow;
+          reached = reached-turn (p .reached) h k;
+          entered = entered-more (p .entered) (omega arith) right;
+        }
+
+    -- entry j is the start of block j, or zeros where there is no such block
+    each : n ≤ b → (j : ℕ) → j < 16 → StartOf (getD (startsIn (blocksFrom rank n s)) j []) (getD out j [])
+    each h j l = rw (other-default out j [] (replicate 4 0) (omega arith)) (by (ltb j n) refl)
+      where
+        by : (t : Bool) → ltb j n ≡ t → StartOf (getD (startsIn (blocksFrom rank n s)) j []) (getD out j (replicate 4 0))
+        by true f = p .entered .done j (omega (arith, ltb-true j n f))
+        by false f =
+            let past = ltb-false j n f in
+            rw (starts-behind rank n j s past, p .entered .rest j (omega arith)) no-start
+
+    pub starts-done : n ≤ b → all goodBlock (blocksFrom rank n s) ≡ true → StartsOf (startsIn (blocksFrom rank n s)) out
+    starts-done h e = record { size = p .entered .size; each = each h; low = λ j k. by j k (ltb j 16) refl }
+      where
+        by : (j k : ℕ) (t : Bool) → ltb j 16 ≡ t → getD (getD out j []) k 0 ≤ 65536
+        by j k true f = rw (each h j (ltb-true j 16 f) .numbers k) (starts-low (blocksFrom rank n s) e j k)
+        by j k false f = let past = ltb-false j 16 f in rw (List·getD-eq-default out [] {n = j} (omega arith)) (omega arith)
+
+pub ruleset starts-laws = (starts-none, starts-more, starts-done)
+
+-- ---- the starts are determined
+
+start-determined : {start p q : List ℕ} → StartOf start p → StartOf start q → p ≡ q
+start-determined {p = p} {q = q} x y = ext-getD 0 p q (x .size ∙ sym (y .size)) (λ k h. x .numbers k ∙ sym (y .numbers k))
+
+pub starts-determined : {starts p q : List (List ℕ)} → StartsOf starts p → StartsOf starts q → p ≡ q
+starts-determined {p = p} {q = q} x y =
+    ext-getD [] p q (x .size ∙ sym (y .size)) (λ b h. start-determined (x .each b (omega arith)) (y .each b (omega arith)))
