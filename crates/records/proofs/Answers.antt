@@ -15,14 +15,17 @@ use Rattle.rules.specs.declared.Walk.the-variants.{To, Broken}
 use Rattle.rules.specs.Lists.{all}
 use Rattle.rules.specs.Buffers.{part}
 use Rattle.rules.specs.Layout.{wellFormed, withinSizes, soundLayout}
-use Rattle.rules.specs.Record.{natural, entriesOf, layoutBy, soundFrom, sound, rowPart, row}
+use Rattle.rules.specs.Record.{natural, entriesOf, layoutBy, soundFrom, sound, rowPart, rowStart, row, rowPlace}
 use Rattle.rules.proofs.Same.{true-not-false}
 use Rattle.rules.proofs.Buffers.{length-part}
 use Rattle.rules.proofs.RowsRead.{rows-length}
+use borrow.Rule.Slice.Shared.{bySize}
+use denote.Ref.{RefT}
 use Rattle.cells.specs.declared.Sign.{Sign}
 use Rattle.cells.specs.declared.Sign.the-variants.{Natural, Negative}
 use Rattle.cells.specs.View.{view, Low, signOf}
 use Rattle.cells.proofs.Signed.{held, back}
+use Rattle.records.specs.Slices.{BeginsAt}
 use Rattle.records.specs.Heads.{HeadOf}
 use Rattle.records.specs.Judging.{Plain, fewEntries}
 use Rattle.records.specs.Sound.{SoundRecord, soundHead}
@@ -115,6 +118,14 @@ module _ {h : Head} {s : List ℤ} (p : Plain h s) (i : ℕ) where
   pub no-row : h .rows .count ≤ i → [] ≡ rowPart i (To h) s
   no-row l = rw (le-ltb i (h .rows .count))
 
+  -- an empty part is the one at the front
+  pub no-row-place : h .rows .count ≤ i → 0 ≡ rowStart i (To h)
+  no-row-place l = rw (le-ltb i (h .rows .count))
+
+  -- row i begins behind those before it
+  pub row-place : i < h .rows .count → h .rows .first + i * h .width ≡ rowStart i (To h)
+  row-place l = rw (lt-ltb i (h .rows .count))
+
   -- row i ends in the slice
   pub row-ended : i < h .rows .count → h .rows .first + i * h .width + h .width ≤ length s
   row-ended l = let e = rows-room p in row-room (h .rows .first) (h .width) l e
@@ -129,21 +140,41 @@ module _ {h : Head} {s : List ℤ} (p : Plain h s) (i : ℕ) where
 
 pub ruleset parts = (no-row, is-row)
 
+-- a part begins where it was taken from
+pub begins : (s r : RefT (List ℤ)) {k m : ℕ} → k ≡ m → r .ptr ≡ (s .ptr .0, bySize 4 k (s .ptr .1)) → BeginsAt m s r
+begins s r e p = record { there = rw (← e) p }
+
+-- and a part that was handed on, where it began
+pub begins-there : {s r : RefT (List ℤ)} {k m : ℕ} → k ≡ m → BeginsAt k s r → BeginsAt m s r
+begins-there e p = rw (← e) p
+
 -- in a record that is not sound there is no row, whatever is asked for
 no-row-there : (s : List ℤ) (z : ℤ) → sound s ≡ false → [] ≡ row s z
 unfolding row
 no-row-there s (pos i) e = rw e
 no-row-there s (negsuc i) e = refl
 
+no-place-there : (s : List ℤ) (z : ℤ) → sound s ≡ false → 0 ≡ rowPlace s z
+unfolding rowPlace
+no-place-there s (pos i) e = rw e
+no-place-there s (negsuc i) e = refl
+
 -- a negative number asks for none
 no-row-negative : (s : List ℤ) (z : ℤ) → signOf z ≡ Negative → [] ≡ row s z
 unfolding row
 no-row-negative s z e = rw (sign-negative z e)
 
+no-place-negative : (s : List ℤ) (z : ℤ) → signOf z ≡ Negative → 0 ≡ rowPlace s z
+unfolding rowPlace
+no-place-negative s z e = rw (sign-negative z e)
+
 module _ (s : List ℤ) (z : ℤ) where
   -- the record is not sound
   pub unsound-row : {r : Walk} → r ≡ soundHead s → r ≡ Broken → [] ≡ row s z
   unsound-row e f = no-row-there s z (no-head s e f)
+
+  pub unsound-place : {r : Walk} → r ≡ soundHead s → r ≡ Broken → 0 ≡ rowPlace s z
+  unsound-place e f = no-place-there s z (no-head s e f)
 
   module _ {g : Sign} (small : mag z < 2 ^ 31) (e : g ≡ signOf (held z)) where
     -- the sign of the number that was asked for
@@ -154,9 +185,18 @@ module _ (s : List ℤ) (z : ℤ) where
     pub negative-row : g ≡ Negative → [] ≡ row s z
     negative-row f = no-row-negative s z (asked ∙ f)
 
+    pub negative-place : g ≡ Negative → 0 ≡ rowPlace s z
+    negative-place f = no-place-negative s z (asked ∙ f)
+
     -- it is natural
     pub found-row : {h : Head} {i : ℕ} {l : List ℤ} → SoundRecord h s → g ≡ Natural i → l ≡ rowPart i (To h) s → l ≡ row s z
     unfolding row
     found-row r f m = m ∙ rw (sign-natural z (asked ∙ f), r .judged, r .walked)
 
+    pub found-place : {h : Head} {i : ℕ} → SoundRecord h s → g ≡ Natural i → rowStart i (To h) ≡ rowPlace s z
+    unfolding rowPlace
+    found-place r f = rw (sign-natural z (asked ∙ f), r .judged, r .walked)
+
 pub ruleset rows = (plain-head, sound-record, unsound-row, negative-row, found-row)
+
+pub ruleset places = (sound-record, unsound-place, negative-place, found-place)

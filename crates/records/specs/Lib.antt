@@ -3,3 +3,4 @@ pub mod Heads
 pub mod Judging
 pub mod Sound
 pub mod EndToEnd
+pub mod Slices

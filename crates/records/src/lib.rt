@@ -8,11 +8,12 @@ ghost use lib.Signed.{nonNeg};
 ghost use Rattle.rules.specs.Lists.{all, allBelow};
 ghost use Rattle.rules.specs.Buffers.{part};
 ghost use Rattle.rules.specs.Layout.{alike, withinProduct, wellFormed, withinSizes};
-ghost use Rattle.rules.specs.Record.{sectionAt, walk, layoutBy, soundFrom, sound, ordered, rowPart, row};
+ghost use Rattle.rules.specs.Record.{sectionAt, walk, layoutBy, soundFrom, sound, ordered, rowPart, rowStart, row, rowPlace};
 ghost use Rattle.rules.specs.declared.Walk.the-variants.{To};
 ghost use Rattle.rules.specs.Arguments.{overRecord};
 ghost use Rattle.cells.specs.View.{view, Low};
 ghost use Rattle.tables.specs.Rows.{HasRows};
+ghost use Rattle.records.specs.Slices.{BeginsAt};
 ghost use Rattle.records.specs.Sections.{SectionIn};
 ghost use Rattle.records.specs.Heads.{HeadOf};
 ghost use Rattle.records.specs.Judging.{Plain, PlainRecord, fewEntries, kindFits, axesFit, rowsFit, rowsBelow, small, smallDeps};
@@ -362,7 +363,8 @@ pub fn ordered(s: &[i32]) -> bool
 // Row i of a plain record, as the part of the slice that it is; an empty part if there is none.
 fn row_of(s: &[i32], h: Head, i: usize) -> &[i32]
     requires { ⌜ Plain h (now s) ⌝ }
-    ensures { λ r. ⌜ now r ≡ rowPart i (To h) (now (s .entry)) ⌝ }
+    ensures is { λ r. ⌜ now r ≡ rowPart i (To h) (now (s .entry)) ⌝ }
+    ensures place { λ r. ⌜ BeginsAt (rowStart i (To h)) (s .entry) r ⌝ }
 {
     let rows = h.rows;
     if rows.count <= i {
@@ -373,9 +375,11 @@ fn row_of(s: &[i32], h: Head, i: usize) -> &[i32]
     &s[from..to]
 }
 
-// Row n of the record at the front of a slice; an empty part if there is none or the record is not sound.
+// Row n of the record at the front of a slice, as the part of the slice that it is; an empty part if there is none or the record is not
+// sound.
 pub fn row(s: &[i32], n: i32) -> &[i32]
-    ensures { λ r. ⌜ now r ≡ row (now (s .entry)) n ⌝ }
+    ensures is { λ r. ⌜ now r ≡ row (now (s .entry)) n ⌝ }
+    ensures place { λ r. ⌜ BeginsAt (rowPlace (now (s .entry)) n) (s .entry) r ⌝ }
 {
     let Walk::To(h) = sound_head(s) else {
         return &s[0..0];

@@ -127,6 +127,15 @@ unfoldable pub row : List ℤ → ℤ → List ℤ
 row s (pos n) = if (sound s) (rowPart n (walk s) s) []
 row s (negsuc n) = []
 
+-- where that part begins in the slice; an empty part is the one at the front
+abbrev pub rowStart : ℕ → Walk → ℕ
+rowStart n (To h) = if (ltb n (h .rows .count)) (h .rows .first + n * h .width) 0
+rowStart n Broken = 0
+
+unfoldable pub rowPlace : List ℤ → ℤ → ℕ
+rowPlace s (pos n) = if (sound s) (rowStart n (walk s)) 0
+rowPlace s (negsuc n) = 0
+
 -- ---- lists: things end to end; one that is not walkable takes the rest, and those after it are empty parts
 
 abbrev pub restFrom : Walk → List ℤ → List ℤ

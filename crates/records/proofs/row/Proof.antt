@@ -1,6 +1,7 @@
 -- `row`: each return says which row was asked for, or why there is none.
+use mathlib.Core.Path.{refl}
 use borrow.Author.Needs.{needs}
-use Rattle.records.proofs.Answers.{rows}
+use Rattle.records.proofs.Answers.{rows, places, begins, begins-there}
 use Rattle.records.proofs.row.Statement.{statement}
 use Rattle.records.proofs.row.Tie as tie
 
@@ -23,7 +24,7 @@ part-result-end : tie.Need-part-result-end
 part-result-end c = search needs
 
 returns : tie.Need-returns
-returns c = search (needs, rows)
+returns c = (search (needs, rows), begins _ _ {k = 0} (search (needs, places)) refl)
 
 sign-of-requires : tie.Need-sign-of-requires
 sign-of-requires c κs = search needs
@@ -44,13 +45,13 @@ part-result-end-2 : tie.Need-part-result-end-2
 part-result-end-2 c = search needs
 
 returns-2 : tie.Need-returns-2
-returns-2 c = search (needs, rows)
+returns-2 c = (search (needs, rows), begins _ _ {k = 0} (search (needs, places)) refl)
 
 row-of-requires : tie.Need-row-of-requires
 row-of-requires c κs = search (needs, rows)
 
 returns-3 : tie.Need-returns-3
-returns-3 c = search (needs, rows)
+returns-3 c = (search (needs, rows), begins-there (search (needs, places)) (c .row-of .ensures .1))
 
 pub row-spec : {M : Type 1} → statement M
 row-spec =
