@@ -13,103 +13,103 @@ use Rattle.cells.specs.View.{view}
 use Rattle.tables.specs.Tables.{tableAt, Only}
 use Rattle.tables.proofs.Only.{only-then, only-wider, only-set, view-outside, row-outside, count-outside, table-outside}
 use Rattle.tables.proofs.Made.{emptied}
-use Rattle.parts.specs.Parts.{kindAt, denseAt, rankAt, layoutAt}
+use Rattle.parts.specs.Parts.{windowSize, left, target, spare, kindAt, denseAt, rankAt, layoutAt, Window}
 use Rattle.parts.proofs.Holds.{rank-most}
-use Rattle.combine.specs.Uniting.{Room, DepsAsked, HeadAsked, BareAsked, CompleteAsked, HeadMade, DepsMade, mergedStates, mergedInputs, completed, Completed, Made}
-use Rattle.combine.proofs.Rooms.{first-same, second-same, first-rank, deps-still}
+use Rattle.combine.specs.Uniting.{DepsAsked, HeadAsked, BareAsked, CompleteAsked, HeadMade, DepsMade, mergedStates, mergedInputs, completed, Completed, Made}
+use Rattle.combine.proofs.Rooms.{in-target, first-same, second-same, first-rank, window-still, deps-still}
 use Rattle.combine.proofs.Heads.{stored-number}
 
 -- the head can be written
-pub ask-head : {a b to kind dense : ℕ} {s : List ℤ} → CompleteAsked a b to kind dense s → HeadAsked a to kind dense s
-ask-head q = record {
-  holds = q .bare .deps .asked .both .first;
-  room = q .bare .deps .asked .room;
-  apart = q .bare .deps .asked .apart-first;
-  kind-most = q .bare .kind-most;
-  dense-most = q .bare .dense-most;
-}
+pub ask-head : {kind dense : ℕ} {s : List ℤ} → CompleteAsked kind dense s → HeadAsked kind dense s
+ask-head q = q .bare .head
 
-module _ {a b to kind dense : ℕ} {s t : List ℤ} (q : CompleteAsked a b to kind dense s) (h : HeadMade a to kind dense s t) where
-  head-wide : Only to (to + 1802) s t
-  head-wide = only-wider (h .only) to (to + 1802) (omega arith) (omega arith)
+module _ {kind dense : ℕ} {s t : List ℤ} (q : CompleteAsked kind dense s) (h : HeadMade kind dense s t) where
+  head-target : Only target spare s t
+  head-target = only-wider (h .only) target spare (omega arith) (omega arith)
 
-  pub ask-deps : DepsAsked a b to t
+  head-wide : Only target windowSize s t
+  head-wide = in-target head-target
+
+  pub ask-deps : DepsAsked t
   ask-deps = deps-still (q .bare .deps) head-wide
 
-  module _ {u : List ℤ} {r : Bool} (d : DepsMade a b to t u r) where
-    abbrev room : Room a b to 1802 s
-    room = q .bare .deps .asked
+  module _ {u : List ℤ} {r : Bool} (d : DepsMade t u r) where
+    abbrev window : Window s
+    window = q .bare .deps .window
 
-    states-same : mergedStates a b t ≡ mergedStates a b s
-    states-same = rw (first-same room head-wide, second-same room head-wide)
+    states-same : mergedStates t ≡ mergedStates s
+    states-same = rw (first-same window head-wide, second-same window head-wide)
 
-    inputs-same : mergedInputs a b t ≡ mergedInputs a b s
-    inputs-same = rw (first-same room head-wide, second-same room head-wide)
+    inputs-same : mergedInputs t ≡ mergedInputs s
+    inputs-same = rw (first-same window head-wide, second-same window head-wide)
 
-    head-number : (k : ℕ) → k < 7 → getD (view u) (to + k) 0 ≡ getD (view t) (to + k) 0
-    head-number k l = view-outside (d .only) (to + k) (inl (omega arith))
+    head-number : (k : ℕ) → k < 7 → getD (view u) (target + k) 0 ≡ getD (view t) (target + k) 0
+    head-number k l = view-outside (d .only) (target + k) (inl (omega arith))
 
-    kind-is : kindAt to u ≡ kind
-    kind-is = view-outside (d .only) to (inl (omega arith)) ∙ h .kind-is
+    kind-is : kindAt target u ≡ kind
+    kind-is = view-outside (d .only) target (inl (omega arith)) ∙ h .kind-is
 
-    dense-is : denseAt to u ≡ dense
+    dense-is : denseAt target u ≡ dense
     dense-is = head-number 1 (omega arith) ∙ h .dense-is
 
-    rank-is : rankAt to u ≡ rankAt a s
+    rank-is : rankAt target u ≡ rankAt left s
     rank-is = head-number 2 (omega arith) ∙ h .rank-is
 
-    shape-is : part (to + 3) (rankAt a s) (view u) ≡ part (a + 3) (rankAt a s) (view s)
-    shape-is = let m = rank-most (room .both .first) in row-outside (d .only) (to + 3) (rankAt a s) (inl (omega arith)) ∙ h .shape-is
+    shape-is : part (target + 3) (rankAt left s) (view u) ≡ part (left + 3) (rankAt left s) (view s)
+    shape-is = let m = rank-most (window .first) in row-outside (d .only) (target + 3) (rankAt left s) (inl (omega arith)) ∙ h .shape-is
 
-    rows-are : tableAt (to + 7) (rankAt a s - dense) u ≡ tableAt (to + 7) (rankAt a s - dense) s
+    rows-are : tableAt (target + 7) (rankAt left s - dense) u ≡ tableAt (target + 7) (rankAt left s - dense) s
     rows-are =
-        let w = rankAt a s - dense in
-        let m = rank-most (room .both .first) in
-        let few : getD (view t) (to + 7) 0 ≤ 128 = rw (count-outside (h .only) (to + 7) w (q .rows-few) (inr (omega arith))) (q .rows-few) in
-        table-outside (d .only) (to + 7) w few (inl (omega arith)) ∙ table-outside (h .only) (to + 7) w (q .rows-few) (inr (omega arith))
+        let w = rankAt left s - dense in
+        let m = rank-most (window .first) in
+        let few : getD (view t) (target + 7) 0 ≤ 128 = rw (count-outside (h .only) (target + 7) w (q .rows-few) (inr (omega arith))) (q .rows-few) in
+        table-outside (d .only) (target + 7) w few (inl (omega arith)) ∙ table-outside (h .only) (target + 7) w (q .rows-few) (inr (omega arith))
 
-    states-are : r ≡ true → tableAt (to + 520) (rankAt a s + 1) u ≡ mergedStates a b s
-    states-are z = rw (first-rank room head-wide) at (d .states z) ∙ states-same
+    states-are : r ≡ true → tableAt (target + 520) (rankAt left s + 1) u ≡ mergedStates s
+    states-are z = rw (first-rank window head-wide) at (d .states z) ∙ states-same
 
-    inputs-are : r ≡ true → tableAt (to + 1161) (rankAt a s + 1) u ≡ mergedInputs a b s
-    inputs-are z = rw (first-rank room head-wide) at (d .inputs z) ∙ inputs-same
+    inputs-are : r ≡ true → tableAt (target + 1161) (rankAt left s + 1) u ≡ mergedInputs s
+    inputs-are z = rw (first-rank window head-wide) at (d .inputs z) ∙ inputs-same
 
-    pub complete-made : Completed a b to kind dense s u r
+    pub complete-made : Completed kind dense s u r
     unfolding layoutAt
     complete-made = record {
       verdict = rw (← states-same, ← inputs-same) (d .verdict);
       layout = λ z. rw (kind-is, dense-is, rank-is, shape-is, rows-are, states-are z, inputs-are z);
-      only = only-then head-wide (only-wider (d .only) to (to + 1802) (omega arith) (omega arith));
+      only = only-then head-target (only-wider (d .only) target spare (omega arith) (omega arith));
     }
 
 -- ---- with no rows
 
-module _ {a b to kind dense : ℕ} {s t : List ℤ} (q : BareAsked a b to kind dense s) (e : t ≡ set s (to + 7) (pos 0)) where
-  abbrev room₂ : Room a b to 1802 s
-  room₂ = q .deps .asked
+module _ {kind dense : ℕ} {s t : List ℤ} (q : BareAsked kind dense s) (e : t ≡ set s (target + 7) (pos 0)) where
+  abbrev window₂ : Window s
+  window₂ = q .deps .window
 
-  cleared : Only to (to + 1802) s t
-  cleared = rw e (only-wider (only-set (to + 7) (pos 0) s) to (to + 1802) (omega arith) (omega arith))
+  cleared : Only target windowSize s t
+  cleared = rw e (only-wider (only-set (target + 7) (pos 0) s) target windowSize (omega arith) (omega arith))
 
-  pub ask-complete : CompleteAsked a b to kind dense t
+  pub ask-complete : CompleteAsked kind dense t
   ask-complete = record {
     bare = record {
       deps = deps-still (q .deps) cleared;
-      kind-most = q .kind-most;
-      dense-most = rw (first-rank room₂ cleared) (q .dense-most);
+      head = record {
+        window = window-still window₂ cleared;
+        kind-most = q .head .kind-most;
+        dense-most = rw (first-rank window₂ cleared) (q .head .dense-most);
+      };
     };
-    rows-few = rw (e, stored-number (to + 7) 0 s (omega (arith, room₂ .room))) (omega arith);
+    rows-few = rw (e, stored-number (target + 7) 0 s (omega (arith, window₂ .room))) (omega arith);
   }
 
-  pub bare-made : {u : List ℤ} {r : Bool} → Completed a b to kind dense t u r → Made to (completed a b kind dense [] s) s u r
+  pub bare-made : {u : List ℤ} {r : Bool} → Completed kind dense t u r → Made (completed kind dense [] s) s u r
   bare-made c =
-      let m = rank-most (room₂ .both .first) in
-      let w = rankAt a s - dense in
-      let empty : tableAt (to + 7) w t ≡ [] = rw e (emptied (to + 7) w s (omega (arith, room₂ .room))) in
+      let m = rank-most (window₂ .first) in
+      let w = rankAt left s - dense in
+      let empty : tableAt (target + 7) w t ≡ [] = rw e (emptied (target + 7) w s (omega (arith, window₂ .room))) in
       record {
-        verdict = rw (first-same room₂ cleared, second-same room₂ cleared) at (c .verdict);
-        layout = λ z. rw (first-rank room₂ cleared, first-same room₂ cleared, second-same room₂ cleared, empty) at (c .layout z);
-        only = only-wider (only-then cleared (c .only)) to (to + 5406) (omega arith) (omega arith);
+        verdict = rw (first-same window₂ cleared, second-same window₂ cleared) at (c .verdict);
+        layout = λ z. rw (first-rank window₂ cleared, first-same window₂ cleared, second-same window₂ cleared, empty) at (c .layout z);
+        only = only-then cleared (in-target (c .only));
       }
 
 pub ruleset laws = (ask-head, ask-deps, complete-made, ask-complete, bare-made)

@@ -1,48 +1,40 @@
--- Two layouts stay as they are while the room that is apart from them is written. Assumes nothing.
+-- Two layouts stay as they are while the rest of the window is written. Assumes nothing.
 use mathlib.Core.Path.{_≡_, sym, _∙_}
 use mathlib.Core.List.{List}
-use mathlib.Core.Logic.{inl, inr, ⊎-elim}
-use Prim.Native.Nat.{ℕ, _+_, _≤_}
+use mathlib.Core.Logic.{inl}
+use Prim.Native.Nat.{ℕ}
 use native.Mathlib.Omega.{arith}
 use lib.IntN.{ℤ}
 use Rattle.tables.specs.Tables.{Only}
-use Rattle.parts.specs.Parts.{rankAt, layoutAt}
+use Rattle.tables.proofs.Only.{only-wider}
+use Rattle.parts.specs.Parts.{windowSize, left, right, target, spare, rankAt, layoutAt, Window}
 use Rattle.parts.proofs.Holds.{rank-outside, layout-outside, holds-outside}
-use Rattle.combine.specs.Uniting.{Room, DepsAsked}
+use Rattle.combine.specs.Uniting.{DepsAsked}
 
--- less room
-pub less-room : {a b to n : ℕ} {s : List ℤ} → Room a b to n s → (m : ℕ) → m ≤ n → Room a b to m s
-less-room q m h = record {
-  both = q .both;
-  room = omega (arith, q .room);
-  apart-first = ⊎-elim (λ l. inl l) (λ l. inr (omega arith)) (q .apart-first);
-  apart-second = ⊎-elim (λ l. inl l) (λ l. inr (omega arith)) (q .apart-second);
-}
+-- what is written in the target is written behind both
+pub in-target : {s t : List ℤ} → Only target spare s t → Only target windowSize s t
+in-target o = only-wider o target windowSize (omega arith) (omega arith)
 
-module _ {a b to n : ℕ} {s t : List ℤ} (q : Room a b to n s) (o : Only to (to + n) s t) where
-  pub first-same : layoutAt a t ≡ layoutAt a s
-  first-same = layout-outside o (q .apart-first) (q .both .first)
+module _ {s t : List ℤ} (q : Window s) (o : Only target windowSize s t) where
+  pub first-same : layoutAt left t ≡ layoutAt left s
+  first-same = layout-outside o (inl (omega arith)) (q .first)
 
-  pub second-same : layoutAt b t ≡ layoutAt b s
-  second-same = layout-outside o (q .apart-second) (q .both .second)
+  pub second-same : layoutAt right t ≡ layoutAt right s
+  second-same = layout-outside o (inl (omega arith)) (q .second)
 
-  pub first-rank : rankAt a t ≡ rankAt a s
-  first-rank = rank-outside o (q .apart-first)
+  pub first-rank : rankAt left t ≡ rankAt left s
+  first-rank = rank-outside {at = left} o (inl (omega arith))
 
-  pub second-rank : rankAt b t ≡ rankAt b s
-  second-rank = rank-outside o (q .apart-second)
+  pub second-rank : rankAt right t ≡ rankAt right s
+  second-rank = rank-outside {at = right} o (inl (omega arith))
 
-  pub room-still : Room a b to n t
-  room-still = record {
-    both = record {
-      first = holds-outside o (q .apart-first) (q .both .first);
-      second = holds-outside o (q .apart-second) (q .both .second);
-    };
+  pub window-still : Window t
+  window-still = record {
+    first = holds-outside o (inl (omega arith)) (q .first);
+    second = holds-outside o (inl (omega arith)) (q .second);
     room = rw (o .size) (q .room);
-    apart-first = q .apart-first;
-    apart-second = q .apart-second;
   }
 
 -- dependencies can still be merged
-pub deps-still : {a b to : ℕ} {s t : List ℤ} → DepsAsked a b to s → Only to (to + 1802) s t → DepsAsked a b to t
-deps-still q o = record { asked = room-still (q .asked) o; ranks = first-rank (q .asked) o ∙ q .ranks ∙ sym (second-rank (q .asked) o) }
+pub deps-still : {s t : List ℤ} → DepsAsked s → Only target windowSize s t → DepsAsked t
+deps-still q o = record { window = window-still (q .window) o; ranks = first-rank (q .window) o ∙ q .ranks ∙ sym (second-rank (q .window) o) }

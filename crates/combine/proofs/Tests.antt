@@ -17,10 +17,9 @@ use Rattle.rules.proofs.Same.{same-true}
 use Rattle.rules.proofs.Listed.{lists-between, lists-zero, lists-same}
 use Rattle.cells.specs.View.{view}
 use Rattle.tables.proofs.Tables.{table-length}
-use Rattle.parts.specs.Parts.{kindAt, denseAt, rankAt, layoutAt, Holds}
+use Rattle.parts.specs.Parts.{left, right, kindAt, denseAt, rankAt, layoutAt, Holds, Window}
 use Rattle.parts.proofs.Holds.{rank-most, rank-is}
 use Rattle.lowering.specs.Lowering.{Axes, lastAxes}
-use Rattle.combine.specs.Uniting.{Both}
 
 -- ---- shapes
 
@@ -32,21 +31,21 @@ lengths-differ p q n = go (same p q) refl
     go true e = absurd (n (ap length (same-true e)))
     go false e = refl
 
-module _ {a b : ℕ} {s : List ℤ} (h : Both a b s) where
+module _ {s : List ℤ} (h : Window s) where
   -- ranks that differ
-  pub ranks-differ : {r : Bool} → r ≡ eqb (rankAt a s) (rankAt b s) → r ≡ false → false ≡ same (layoutAt a s .shape) (layoutAt b s .shape)
-  ranks-differ e f = sym (lengths-differ (layoutAt a s .shape) (layoutAt b s .shape) (λ k. eqb-false (rankAt a s) (rankAt b s) (sym e ∙ f) (sym (rank-is (h .first)) ∙ k ∙ rank-is (h .second))))
+  pub ranks-differ : {r : Bool} → r ≡ eqb (rankAt left s) (rankAt right s) → r ≡ false → false ≡ same (layoutAt left s .shape) (layoutAt right s .shape)
+  ranks-differ e f = sym (lengths-differ (layoutAt left s .shape) (layoutAt right s .shape) (λ k. eqb-false (rankAt left s) (rankAt right s) (sym e ∙ f) (sym (rank-is (h .first)) ∙ k ∙ rank-is (h .second))))
 
   -- ranks that agree
-  pub ranks-agree : {r : Bool} → r ≡ eqb (rankAt a s) (rankAt b s) → r ≡ true → rankAt a s ≡ rankAt b s
-  ranks-agree e t = eqb-true (rankAt a s) (rankAt b s) (sym e ∙ t)
+  pub ranks-agree : {r : Bool} → r ≡ eqb (rankAt left s) (rankAt right s) → r ≡ true → rankAt left s ≡ rankAt right s
+  ranks-agree e t = eqb-true (rankAt left s) (rankAt right s) (sym e ∙ t)
 
   -- the extents there
-  pub extents-inside : {n : ℕ} → n ≡ rankAt a s → (a + 3 + n ≤ length s) × (b + 3 + n ≤ length s)
+  pub extents-inside : {n : ℕ} → n ≡ rankAt left s → (left + 3 + n ≤ length s) × (right + 3 + n ≤ length s)
   extents-inside e = let m = rank-most (h .first) in (omega (arith, h .first .inside), omega (arith, h .second .inside))
 
-  pub shapes-tell : {n : ℕ} {r : Bool} → n ≡ rankAt a s → rankAt a s ≡ rankAt b s → r ≡ same (part (a + 3) n (view s)) (part (b + 3) n (view s)) →
-      r ≡ same (layoutAt a s .shape) (layoutAt b s .shape)
+  pub shapes-tell : {n : ℕ} {r : Bool} → n ≡ rankAt left s → rankAt left s ≡ rankAt right s → r ≡ same (part (left + 3) n (view s)) (part (right + 3) n (view s)) →
+      r ≡ same (layoutAt left s .shape) (layoutAt right s .shape)
   unfolding layoutAt
   shapes-tell e k t = rw (← k, ← e) t
 
@@ -67,27 +66,27 @@ module _ {at : ℕ} {s : List ℤ} (h : Holds at s) where
   unfolding layoutAt
   bars-diagonal e o f = rw (← e, o, ← f)
 
-module _ {a b : ℕ} {s : List ℤ} (both : Both a b s) where
-  pub alike-not-first : {k : ℕ} → k ≡ kindAt a s → (k ≡ 1 → ⊥) → false ≡ alikeDiagonals (layoutAt a s) (layoutAt b s)
+module _ {s : List ℤ} (both : Window s) where
+  pub alike-not-first : {k : ℕ} → k ≡ kindAt left s → (k ≡ 1 → ⊥) → false ≡ alikeDiagonals (layoutAt left s) (layoutAt right s)
   unfolding layoutAt
   alike-not-first e n = rw (← e, ne-eqb _ 1 n)
 
-  pub alike-not-second : {k l : ℕ} → k ≡ kindAt a s → k ≡ 1 → l ≡ kindAt b s → (l ≡ 1 → ⊥) → false ≡ alikeDiagonals (layoutAt a s) (layoutAt b s)
+  pub alike-not-second : {k l : ℕ} → k ≡ kindAt left s → k ≡ 1 → l ≡ kindAt right s → (l ≡ 1 → ⊥) → false ≡ alikeDiagonals (layoutAt left s) (layoutAt right s)
   unfolding layoutAt
   alike-not-second e o f n = rw (← e, o, ← f, ne-eqb _ 1 n)
 
-  pub alike-both : {k l : ℕ} {r : Bool} → k ≡ kindAt a s → k ≡ 1 → l ≡ kindAt b s → l ≡ 1 → r ≡ eqb (denseAt a s) (denseAt b s) →
-      r ≡ alikeDiagonals (layoutAt a s) (layoutAt b s)
+  pub alike-both : {k l : ℕ} {r : Bool} → k ≡ kindAt left s → k ≡ 1 → l ≡ kindAt right s → l ≡ 1 → r ≡ eqb (denseAt left s) (denseAt right s) →
+      r ≡ alikeDiagonals (layoutAt left s) (layoutAt right s)
   unfolding layoutAt
   alike-both e o f p t = rw (← e, o, ← f, p) t
 
   -- ---- dense axes
 
-  pub lower-first : {d e : ℕ} → d ≡ denseAt a s → e ≡ denseAt b s → d < e → d ≡ lowerD (layoutAt a s) (layoutAt b s)
+  pub lower-first : {d e : ℕ} → d ≡ denseAt left s → e ≡ denseAt right s → d < e → d ≡ lowerD (layoutAt left s) (layoutAt right s)
   unfolding layoutAt
   lower-first p q h = omega arith
 
-  pub lower-second : {d e : ℕ} → d ≡ denseAt a s → e ≡ denseAt b s → e ≤ d → e ≡ lowerD (layoutAt a s) (layoutAt b s)
+  pub lower-second : {d e : ℕ} → d ≡ denseAt left s → e ≡ denseAt right s → e ≤ d → e ≡ lowerD (layoutAt left s) (layoutAt right s)
   unfolding layoutAt
   lower-second p q h = omega arith
 

@@ -1,10 +1,10 @@
--- The union of two layouts in parts of one slice, and its steps.
+-- The union of two layouts in a window of parts, and its steps.
 use mathlib.Core.Path.{_≡_}
 use mathlib.Core.Bool.{Bool, true, _&&_, _||_}
 use mathlib.Core.List.{List}
 use Prim.Native.Nat.{ℕ, _+_, _-_, _≤_}
 use lib.IntN.{ℤ}
-use lib.ListN.{length, getD}
+use lib.ListN.{getD}
 use Rattle.rules.specs.declared.Step.{Step}
 use Rattle.rules.specs.declared.Step.the-variants.{Done, Refused}
 use Rattle.rules.specs.declared.Refusal.the-variants.{MadeTooLarge}
@@ -14,10 +14,10 @@ use Rattle.rules.specs.RowsInOrder.{merge}
 use Rattle.rules.specs.Layout.{Layout, isDense, few}
 use Rattle.rules.specs.Removal.{lowered, lowerD, listsRow, barsExpansion, fewOf}
 use Rattle.rules.specs.Union.{withMerged, alikeDiagonals, joined, union}
-use Rattle.rules.specs.Endings.{stepSays}
 use Rattle.cells.specs.View.{view}
 use Rattle.tables.specs.Tables.{tableAt, Only}
-use Rattle.parts.specs.Parts.{kindAt, denseAt, rankAt, layoutAt, Holds, Apart}
+use Rattle.parts.specs.Parts.{windowSize, left, right, target, spare, kindAt, denseAt, rankAt, layoutAt, Window}
+use Rattle.parts.specs.Answers.{Says}
 use Rattle.combine.specs.declared.Way.{Way}
 use Rattle.combine.specs.declared.Way.the-variants.{Dense, Diagonal, Barred, Listing, Rows}
 
@@ -34,109 +34,90 @@ wayOf a b =
 
 -- ---- what is asked
 
--- two layouts in parts of the slice
-pub record Both (a b : ℕ) (s : List ℤ) : Type 0 where
-  pub first : Holds a s
-  pub second : Holds b s
-
--- and apart from them room for n numbers
-pub record Room (a b to n : ℕ) (s : List ℤ) : Type 0 where
-  pub both : Both a b s
-  pub room : to + n ≤ length s
-  pub apart-first : Apart a to (to + n)
-  pub apart-second : Apart b to (to + n)
-
--- room for three parts
-abbrev pub UnionAsked : ℕ → ℕ → ℕ → List ℤ → Type 0
-UnionAsked a b to s = Room a b to 5406 s
-
--- a layout whose shape a part apart from it gets, with a kind and a D
-pub record HeadAsked (a to kind dense : ℕ) (s : List ℤ) : Type 0 where
-  pub holds : Holds a s
-  pub room : to + 1802 ≤ length s
-  pub apart : Apart a to (to + 1802)
+-- a kind and a D for a layout of the shape of the first
+pub record HeadAsked (kind dense : ℕ) (s : List ℤ) : Type 0 where
+  pub window : Window s
   pub kind-most : kind ≤ 2
-  pub dense-most : dense ≤ rankAt a s
+  pub dense-most : dense ≤ rankAt left s
 
--- the layouts have one rank, and a third part is asked for
-pub record DepsAsked (a b to : ℕ) (s : List ℤ) : Type 0 where
-  pub asked : Room a b to 1802 s
-  pub ranks : rankAt a s ≡ rankAt b s
+-- the layouts have one rank
+pub record DepsAsked (s : List ℤ) : Type 0 where
+  pub window : Window s
+  pub ranks : rankAt left s ≡ rankAt right s
 
 -- with a kind and a D
-pub record BareAsked (a b to kind dense : ℕ) (s : List ℤ) : Type 0 where
-  pub deps : DepsAsked a b to s
-  pub kind-most : kind ≤ 2
-  pub dense-most : dense ≤ rankAt a s
+pub record BareAsked (kind dense : ℕ) (s : List ℤ) : Type 0 where
+  pub deps : DepsAsked s
+  pub head : HeadAsked kind dense s
 
--- and rows that stand in the third part
-pub record CompleteAsked (a b to kind dense : ℕ) (s : List ℤ) : Type 0 where
-  pub bare : BareAsked a b to kind dense s
-  pub rows-few : getD (view s) (to + 7) 0 ≤ 128
+-- and rows that stand in the target
+pub record CompleteAsked (kind dense : ℕ) (s : List ℤ) : Type 0 where
+  pub bare : BareAsked kind dense s
+  pub rows-few : getD (view s) (target + 7) 0 ≤ 128
 
 -- the layouts have one shape, and are united by their rows
-pub record RowsAsked (a b to : ℕ) (s : List ℤ) : Type 0 where
-  pub asked : UnionAsked a b to s
-  pub shapes : same (layoutAt a s .shape) (layoutAt b s .shape) ≡ true
-  pub way : wayOf (layoutAt a s) (layoutAt b s) ≡ Rows
+pub record RowsAsked (s : List ℤ) : Type 0 where
+  pub window : Window s
+  pub shapes : same (layoutAt left s .shape) (layoutAt right s .shape) ≡ true
+  pub way : wayOf (layoutAt left s) (layoutAt right s) ≡ Rows
 
 -- with the smaller D
-pub record JoinAsked (a b to d : ℕ) (s : List ℤ) : Type 0 where
-  pub asked : RowsAsked a b to s
-  pub lower : d ≡ lowerD (layoutAt a s) (layoutAt b s)
+pub record JoinAsked (d : ℕ) (s : List ℤ) : Type 0 where
+  pub asked : RowsAsked s
+  pub lower : d ≡ lowerD (layoutAt left s) (layoutAt right s)
 
 -- ---- what is made
 
 -- the head of a part
-pub record HeadMade (a to kind dense : ℕ) (s t : List ℤ) : Type 0 where
-  pub kind-is : kindAt to t ≡ kind
-  pub dense-is : denseAt to t ≡ dense
-  pub rank-is : rankAt to t ≡ rankAt a s
-  pub shape-is : part (to + 3) (rankAt a s) (view t) ≡ part (a + 3) (rankAt a s) (view s)
-  pub only : Only to (to + 7) s t
+pub record HeadMade (kind dense : ℕ) (s t : List ℤ) : Type 0 where
+  pub kind-is : kindAt target t ≡ kind
+  pub dense-is : denseAt target t ≡ dense
+  pub rank-is : rankAt target t ≡ rankAt left s
+  pub shape-is : part (target + 3) (rankAt left s) (view t) ≡ part (left + 3) (rankAt left s) (view s)
+  pub only : Only target (target + 7) s t
 
-abbrev pub mergedStates : ℕ → ℕ → List ℤ → List (List ℕ)
-mergedStates a b s = merge (layoutAt a s .states) (layoutAt b s .states)
+abbrev pub mergedStates : List ℤ → List (List ℕ)
+mergedStates s = merge (layoutAt left s .states) (layoutAt right s .states)
 
-abbrev pub mergedInputs : ℕ → ℕ → List ℤ → List (List ℕ)
-mergedInputs a b s = merge (layoutAt a s .inputs) (layoutAt b s .inputs)
+abbrev pub mergedInputs : List ℤ → List (List ℕ)
+mergedInputs s = merge (layoutAt left s .inputs) (layoutAt right s .inputs)
 
 -- the dependencies of both, if they are not too many
-pub record DepsMade (a b to : ℕ) (s t : List ℤ) (r : Bool) : Type 0 where
-  pub verdict : r ≡ few (mergedStates a b s) && few (mergedInputs a b s)
-  pub states : r ≡ true → tableAt (to + 520) (rankAt a s + 1) t ≡ mergedStates a b s
-  pub inputs : r ≡ true → tableAt (to + 1161) (rankAt a s + 1) t ≡ mergedInputs a b s
-  pub only : Only (to + 520) (to + 1802) s t
+pub record DepsMade (s t : List ℤ) (r : Bool) : Type 0 where
+  pub verdict : r ≡ few (mergedStates s) && few (mergedInputs s)
+  pub states : r ≡ true → tableAt (target + 520) (rankAt left s + 1) t ≡ mergedStates s
+  pub inputs : r ≡ true → tableAt (target + 1161) (rankAt left s + 1) t ≡ mergedInputs s
+  pub only : Only (target + 520) spare s t
 
 -- a layout of the shape of another one
 abbrev pub shaped : ℕ → ℕ → Layout → List (List ℕ) → Layout
 shaped kind dense l rows = record { kind = kind; dense = dense; shape = l .shape; rows = rows; states = l .states; inputs = l .inputs }
 
 -- a layout of the shape of the first, with the dependencies of both
-abbrev pub completed : ℕ → ℕ → ℕ → ℕ → List (List ℕ) → List ℤ → Layout
-completed a b kind dense rows s = withMerged (layoutAt a s) (layoutAt b s) (shaped kind dense (layoutAt a s) rows)
+abbrev pub completed : ℕ → ℕ → List (List ℕ) → List ℤ → Layout
+completed kind dense rows s = withMerged (layoutAt left s) (layoutAt right s) (shaped kind dense (layoutAt left s) rows)
 
 -- the rows that stand there are completed to a layout, if the dependencies are not too many
-pub record Completed (a b to kind dense : ℕ) (s t : List ℤ) (r : Bool) : Type 0 where
-  pub verdict : r ≡ few (mergedStates a b s) && few (mergedInputs a b s)
-  pub layout : r ≡ true → layoutAt to t ≡ completed a b kind dense (tableAt (to + 7) (rankAt a s - dense) s) s
-  pub only : Only to (to + 1802) s t
+pub record Completed (kind dense : ℕ) (s t : List ℤ) (r : Bool) : Type 0 where
+  pub verdict : r ≡ few (mergedStates s) && few (mergedInputs s)
+  pub layout : r ≡ true → layoutAt target t ≡ completed kind dense (tableAt (target + 7) (rankAt left s - dense) s) s
+  pub only : Only target spare s t
 
 -- a layout stands in the part, if its lists are not too long
-pub record Made (to : ℕ) (l : Layout) (s t : List ℤ) (r : Bool) : Type 0 where
+pub record Made (l : Layout) (s t : List ℤ) (r : Bool) : Type 0 where
   pub verdict : r ≡ fewOf l
-  pub layout : r ≡ true → layoutAt to t ≡ l
-  pub only : Only to (to + 5406) s t
+  pub layout : r ≡ true → layoutAt target t ≡ l
+  pub only : Only target windowSize s t
 
 -- the rows of both with the smaller D
-abbrev pub joinedRows : ℕ → ℕ → ℕ → List ℤ → List (List ℕ)
-joinedRows a b d s = merge (lowered (layoutAt a s) d .rows) (lowered (layoutAt b s) d .rows)
+abbrev pub joinedRows : ℕ → List ℤ → List (List ℕ)
+joinedRows d s = merge (lowered (layoutAt left s) d .rows) (lowered (layoutAt right s) d .rows)
 
 -- they stand in the part, if they are not too many
-pub record RowsJoined (a b to d : ℕ) (s t : List ℤ) (r : Bool) : Type 0 where
-  pub verdict : r ≡ few (joinedRows a b d s)
-  pub table : r ≡ true → tableAt (to + 7) (rankAt a s - d) t ≡ joinedRows a b d s
-  pub only : Only to (to + 5406) s t
+pub record RowsJoined (d : ℕ) (s t : List ℤ) (r : Bool) : Type 0 where
+  pub verdict : r ≡ few (joinedRows d s)
+  pub table : r ≡ true → tableAt (target + 7) (rankAt left s - d) t ≡ joinedRows d s
+  pub only : Only target windowSize s t
 
 -- the union by rows
 abbrev pub unitedRows : Layout → Layout → Layout
@@ -146,8 +127,7 @@ unitedRows a b = withMerged a b (joined (lowered a (lowerD a b)) (lowered b (low
 abbrev pub madeStep : Bool → Step
 madeStep few = if few Done (Refused MadeTooLarge)
 
--- the union, in the part; the two parts behind it are spare room
-pub record UnionMade (a b to : ℕ) (s t : List ℤ) (r : Step) : Type 0 where
-  pub is : stepSays r (layoutAt to t) ≡ union (layoutAt a s) (layoutAt b s)
-  pub holds : r ≡ Done → Holds to t
-  pub only : Only to (to + 5406) s t
+-- the union, in the target; the two parts behind it are spare room
+pub record UnionMade (s t : List ℤ) (r : Step) : Type 0 where
+  pub says : Says (union (layoutAt left s) (layoutAt right s)) target t r
+  pub only : Only target windowSize s t

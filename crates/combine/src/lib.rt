@@ -1,14 +1,60 @@
-// The union of two layouts that stand in parts of one working slice.
+// The union of two layouts in a window of parts: left, right, target, and two that are spare room.
 ghost use mathlib.Core.Path.{_≡_};
 ghost use mathlib.Core.List.{[]};
 ghost use Rattle.rules.specs.Lists.{same};
 ghost use Rattle.rules.specs.Layout.{isDense};
 ghost use Rattle.rules.specs.Removal.{lowerD, listsRow, barsExpansion};
 ghost use Rattle.rules.specs.Union.{alikeDiagonals};
-ghost use Rattle.parts.specs.Parts.{layoutAt, Holds};
-ghost use Rattle.combine.specs.Uniting.{wayOf, Both, UnionAsked, HeadAsked, DepsAsked, BareAsked, CompleteAsked, RowsAsked, JoinAsked, HeadMade, DepsMade, completed, Completed, Made, RowsJoined, unitedRows, madeStep, UnionMade};
+ghost use Rattle.parts.specs.Parts.{left, right, layoutAt, Holds, Window};
+ghost use Rattle.combine.specs.Uniting.{wayOf, HeadAsked, DepsAsked, BareAsked, CompleteAsked, RowsAsked, JoinAsked, HeadMade, DepsMade, completed, Completed, Made, RowsJoined, unitedRows, madeStep, UnionMade};
+use parts::DENSE;
+use parts::EXTENTS;
+use parts::INPUTS;
+use parts::LEFT;
+use parts::OTHER_SPARE;
+use parts::RANK;
+use parts::RIGHT;
+use parts::ROWS;
+use parts::SPARE;
+use parts::STATES;
+use parts::TARGET;
 use rules::Refusal;
 use rules::Step;
+
+// Where the sections of the parts stand in the window.
+const LEFT_DENSE: usize = LEFT + DENSE;
+
+const LEFT_RANK: usize = LEFT + RANK;
+
+const LEFT_EXTENTS: usize = LEFT + EXTENTS;
+
+const LEFT_STATES: usize = LEFT + STATES;
+
+const LEFT_INPUTS: usize = LEFT + INPUTS;
+
+const RIGHT_DENSE: usize = RIGHT + DENSE;
+
+const RIGHT_RANK: usize = RIGHT + RANK;
+
+const RIGHT_EXTENTS: usize = RIGHT + EXTENTS;
+
+const RIGHT_STATES: usize = RIGHT + STATES;
+
+const RIGHT_INPUTS: usize = RIGHT + INPUTS;
+
+const TARGET_DENSE: usize = TARGET + DENSE;
+
+const TARGET_RANK: usize = TARGET + RANK;
+
+const TARGET_ROWS: usize = TARGET + ROWS;
+
+const TARGET_STATES: usize = TARGET + STATES;
+
+const TARGET_INPUTS: usize = TARGET + INPUTS;
+
+const SPARE_ROWS: usize = SPARE + ROWS;
+
+const OTHER_SPARE_ROWS: usize = OTHER_SPARE + ROWS;
 
 // Which way two layouts of one shape are united.
 pub enum Way {
@@ -24,14 +70,14 @@ pub enum Way {
     Rows,
 }
 
-// Whether the layouts at a and b have one shape.
-pub fn same_shapes(s: &[i32], a: usize, b: usize) -> bool
-    requires { ⌜ Both a b (now s) ⌝ }
-    ensures { λ r. ⌜ r ≡ same (layoutAt a (now (s .entry)) .shape) (layoutAt b (now (s .entry)) .shape) ⌝ }
+// Whether both layouts have one shape.
+pub fn same_shapes(window: &[i32]) -> bool
+    requires { ⌜ Window (now window) ⌝ }
+    ensures { λ r. ⌜ r ≡ same (layoutAt left (now (window .entry)) .shape) (layoutAt right (now (window .entry)) .shape) ⌝ }
 {
-    if cells::same(s, a + 2, s, b + 2) {
-        let rank = cells::get(s, a + 2);
-        return tables::same_numbers(s, a + 3, s, b + 3, rank);
+    if cells::same(window, LEFT_RANK, window, RIGHT_RANK) {
+        let rank = cells::get(window, LEFT_RANK);
+        return tables::same_numbers(window, LEFT_EXTENTS, window, RIGHT_EXTENTS, rank);
     }
     false
 }
@@ -44,18 +90,18 @@ pub fn is_dense(s: &[i32], at: usize) -> bool
     cells::get(s, at) == 0
 }
 
-// Whether the layouts at a and b are diagonals with equal D.
-pub fn alike_diagonals(s: &[i32], a: usize, b: usize) -> bool
-    requires { ⌜ Both a b (now s) ⌝ }
-    ensures { λ r. ⌜ r ≡ alikeDiagonals (layoutAt a (now (s .entry))) (layoutAt b (now (s .entry))) ⌝ }
+// Whether both layouts are diagonals with equal D.
+pub fn alike_diagonals(window: &[i32]) -> bool
+    requires { ⌜ Window (now window) ⌝ }
+    ensures { λ r. ⌜ r ≡ alikeDiagonals (layoutAt left (now (window .entry))) (layoutAt right (now (window .entry))) ⌝ }
 {
-    if cells::get(s, a) != 1 {
+    if cells::get(window, LEFT) != 1 {
         return false;
     }
-    if cells::get(s, b) != 1 {
+    if cells::get(window, RIGHT) != 1 {
         return false;
     }
-    cells::same(s, a + 1, s, b + 1)
+    cells::same(window, LEFT_DENSE, window, RIGHT_DENSE)
 }
 
 // Whether the layout at a place is a diagonal with dense axes, which does not expand.
@@ -66,16 +112,16 @@ pub fn bars_expansion(s: &[i32], at: usize) -> bool
     if cells::get(s, at) != 1 {
         return false;
     }
-    0 < cells::get(s, at + 1)
+    0 < cells::get(s, at + DENSE)
 }
 
-// The smaller D of the layouts at a and b.
-pub fn lower_dense(s: &[i32], a: usize, b: usize) -> usize
-    requires { ⌜ Both a b (now s) ⌝ }
-    ensures { λ r. ⌜ r ≡ lowerD (layoutAt a (now (s .entry))) (layoutAt b (now (s .entry))) ⌝ }
+// The smaller D of both layouts.
+pub fn lower_dense(window: &[i32]) -> usize
+    requires { ⌜ Window (now window) ⌝ }
+    ensures { λ r. ⌜ r ≡ lowerD (layoutAt left (now (window .entry))) (layoutAt right (now (window .entry))) ⌝ }
 {
-    let d = cells::get(s, a + 1);
-    let e = cells::get(s, b + 1);
+    let d = cells::get(window, LEFT_DENSE);
+    let e = cells::get(window, RIGHT_DENSE);
     if d < e {
         return d;
     }
@@ -90,118 +136,111 @@ pub fn lists_row(s: &[i32], at: usize, d: usize) -> bool
     if d == 0 {
         return false;
     }
-    let dense = cells::get(s, at + 1);
+    let dense = cells::get(s, at + DENSE);
     if dense <= d {
         return false;
     }
-    if cells::get(s, at + 7) == 0 {
+    if cells::get(s, at + ROWS) == 0 {
         return false;
     }
-    let rank = cells::get(s, at + 2);
-    0 < lowering::product(s, at + 3, rank - (dense - d), rank)
+    let rank = cells::get(s, at + RANK);
+    0 < lowering::product(s, at + EXTENTS, rank - (dense - d), rank)
 }
 
-// Which way the layouts at a and b are united.
-pub fn way_of(s: &[i32], a: usize, b: usize) -> Way
-    requires { ⌜ Both a b (now s) ⌝ }
-    ensures { λ r. ⌜ r ≡ wayOf (layoutAt a (now (s .entry))) (layoutAt b (now (s .entry))) ⌝ }
+// Which way both layouts are united.
+pub fn way_of(window: &[i32]) -> Way
+    requires { ⌜ Window (now window) ⌝ }
+    ensures { λ r. ⌜ r ≡ wayOf (layoutAt left (now (window .entry))) (layoutAt right (now (window .entry))) ⌝ }
 {
-    if is_dense(s, a) {
+    if is_dense(window, LEFT) {
         return Way::Dense;
     }
-    if is_dense(s, b) {
+    if is_dense(window, RIGHT) {
         return Way::Dense;
     }
-    if alike_diagonals(s, a, b) {
+    if alike_diagonals(window) {
         return Way::Diagonal;
     }
-    if bars_expansion(s, a) {
+    if bars_expansion(window, LEFT) {
         return Way::Barred;
     }
-    if bars_expansion(s, b) {
+    if bars_expansion(window, RIGHT) {
         return Way::Barred;
     }
-    let d = lower_dense(s, a, b);
-    if lists_row(s, a, d) {
+    let d = lower_dense(window);
+    if lists_row(window, LEFT, d) {
         return Way::Listing;
     }
-    if lists_row(s, b, d) {
+    if lists_row(window, RIGHT, d) {
         return Way::Listing;
     }
     Way::Rows
 }
 
-// A kind, a D and the extents of the layout at a become the head of the part at `to`.
-pub fn write_head(s: &mut [i32], a: usize, to: usize, kind: usize, dense: usize)
-    requires { ⌜ HeadAsked a to kind dense (now s) ⌝ }
-    ensures { λ _. ⌜ HeadMade a to kind dense (now (s .entry)) (now (s .exit)) ⌝ }
+// A kind, a D and the extents of the left layout become the head of the target.
+pub fn write_head(window: &mut [i32], kind: usize, dense: usize)
+    requires { ⌜ HeadAsked kind dense (now window) ⌝ }
+    ensures { λ _. ⌜ HeadMade kind dense (now (window .entry)) (now (window .exit)) ⌝ }
 {
-    cells::move_part(s, a + 2, to + 2, 5);
-    cells::store(s, to, kind);
-    cells::store(s, to + 1, dense);
+    cells::move_part(window, LEFT_RANK, TARGET_RANK, 5);
+    cells::store(window, TARGET, kind);
+    cells::store(window, TARGET_DENSE, dense);
 }
 
-// The dependencies of the layouts at a and b are merged into the part at `to`; false where they are too many.
-pub fn merge_deps(s: &mut [i32], a: usize, b: usize, to: usize) -> bool
-    requires { ⌜ DepsAsked a b to (now s) ⌝ }
-    ensures { λ r. ⌜ DepsMade a b to (now (s .entry)) (now (s .exit)) r ⌝ }
+// The dependencies of both layouts are merged into the target; false where they are too many.
+pub fn merge_deps(window: &mut [i32]) -> bool
+    requires { ⌜ DepsAsked (now window) ⌝ }
+    ensures { λ r. ⌜ DepsMade (now (window .entry)) (now (window .exit)) r ⌝ }
 {
-    let w = cells::get(s, a + 2) + 1;
-    if tables::merge_into(s, a + 520, b + 520, to + 520, w) {
-        return tables::merge_into(s, a + 1161, b + 1161, to + 1161, w);
+    let w = cells::get(window, LEFT_RANK) + 1;
+    if tables::merge_into(window, LEFT_STATES, RIGHT_STATES, TARGET_STATES, w) {
+        return tables::merge_into(window, LEFT_INPUTS, RIGHT_INPUTS, TARGET_INPUTS, w);
     }
     false
 }
 
-// The rows in the part at `to` become a layout with a kind, a D, the shape of the layout at a and the dependencies of both;
-// false where these are too many.
-pub fn complete(s: &mut [i32], a: usize, b: usize, to: usize, kind: usize, dense: usize) -> bool
-    requires { ⌜ CompleteAsked a b to kind dense (now s) ⌝ }
-    ensures { λ r. ⌜ Completed a b to kind dense (now (s .entry)) (now (s .exit)) r ⌝ }
+// The rows in the target become a layout with a kind, a D, the shape of the left layout and the dependencies of both; false
+// where these are too many.
+pub fn complete(window: &mut [i32], kind: usize, dense: usize) -> bool
+    requires { ⌜ CompleteAsked kind dense (now window) ⌝ }
+    ensures { λ r. ⌜ Completed kind dense (now (window .entry)) (now (window .exit)) r ⌝ }
 {
-    write_head(s, a, to, kind, dense);
-    merge_deps(s, a, b, to)
+    write_head(window, kind, dense);
+    merge_deps(window)
 }
 
 // The same with no rows: whether the layout was made, or has too many dependencies.
-pub fn complete_bare(
-    s: &mut [i32],
-    a: usize,
-    b: usize,
-    to: usize,
-    kind: usize,
-    dense: usize,
-) -> bool
-    requires { ⌜ BareAsked a b to kind dense (now s) ⌝ }
-    ensures { λ r. ⌜ Made to (completed a b kind dense [] (now (s .entry))) (now (s .entry)) (now (s .exit)) r ⌝ }
+pub fn complete_bare(window: &mut [i32], kind: usize, dense: usize) -> bool
+    requires { ⌜ BareAsked kind dense (now window) ⌝ }
+    ensures { λ r. ⌜ Made (completed kind dense [] (now (window .entry))) (now (window .entry)) (now (window .exit)) r ⌝ }
 {
-    cells::store(s, to + 7, 0);
-    complete(s, a, b, to, kind, dense)
+    cells::store(window, TARGET_ROWS, 0);
+    complete(window, kind, dense)
 }
 
-// The rows of the layouts at a and b, with D lowered to d, are joined in the part at `to`; false where they are too many.
-pub fn join_rows(s: &mut [i32], a: usize, b: usize, to: usize, d: usize) -> bool
-    requires { ⌜ JoinAsked a b to d (now s) ⌝ }
-    ensures { λ r. ⌜ RowsJoined a b to d (now (s .entry)) (now (s .exit)) r ⌝ }
+// The rows of both layouts, with D lowered to d, are joined in the target; false where they are too many.
+pub fn join_rows(window: &mut [i32], d: usize) -> bool
+    requires { ⌜ JoinAsked d (now window) ⌝ }
+    ensures { λ r. ⌜ RowsJoined d (now (window .entry)) (now (window .exit)) r ⌝ }
 {
-    let w = cells::get(s, a + 2) - d;
-    if !lowering::lower_into(s, a, d, to + 1809) {
+    let w = cells::get(window, LEFT_RANK) - d;
+    if !lowering::lower_into(window, LEFT, d, SPARE_ROWS) {
         return false;
     }
-    if !lowering::lower_into(s, b, d, to + 3611) {
+    if !lowering::lower_into(window, RIGHT, d, OTHER_SPARE_ROWS) {
         return false;
     }
-    tables::merge_into(s, to + 1809, to + 3611, to + 7, w)
+    tables::merge_into(window, SPARE_ROWS, OTHER_SPARE_ROWS, TARGET_ROWS, w)
 }
 
-// The union of the layouts at a and b by their rows; false where a list of it is too long.
-pub fn unite_rows(s: &mut [i32], a: usize, b: usize, to: usize) -> bool
-    requires { ⌜ RowsAsked a b to (now s) ⌝ }
-    ensures { λ r. ⌜ Made to (unitedRows (layoutAt a (now (s .entry))) (layoutAt b (now (s .entry)))) (now (s .entry)) (now (s .exit)) r ⌝ }
+// The union of both layouts by their rows; false where a list of it is too long.
+pub fn unite_rows(window: &mut [i32]) -> bool
+    requires { ⌜ RowsAsked (now window) ⌝ }
+    ensures { λ r. ⌜ Made (unitedRows (layoutAt left (now (window .entry))) (layoutAt right (now (window .entry)))) (now (window .entry)) (now (window .exit)) r ⌝ }
 {
-    let d = lower_dense(s, a, b);
-    if join_rows(s, a, b, to, d) {
-        return complete(s, a, b, to, 2, d);
+    let d = lower_dense(window);
+    if join_rows(window, d) {
+        return complete(window, 2, d);
     }
     false
 }
@@ -216,25 +255,25 @@ pub fn made(few: bool) -> Step
     Step::Refused(Refusal::MadeTooLarge)
 }
 
-// The union of the layouts in the parts at a and b goes to the part at `to`; the two parts behind it are spare room.
-pub fn union_in(work: &mut [i32], a: usize, b: usize, to: usize) -> Step
-    requires { ⌜ UnionAsked a b to (now work) ⌝ }
-    ensures { λ r. ⌜ UnionMade a b to (now (work .entry)) (now (work .exit)) r ⌝ }
+// The union of the left and the right layout goes to the target.
+pub fn union_in(window: &mut [i32]) -> Step
+    requires { ⌜ Window (now window) ⌝ }
+    ensures { λ r. ⌜ UnionMade (now (window .entry)) (now (window .exit)) r ⌝ }
 {
-    if !same_shapes(work, a, b) {
+    if !same_shapes(window) {
         return Step::Refused(Refusal::ShapesDisagree);
     }
-    match way_of(work, a, b) {
+    match way_of(window) {
         Way::Dense => {
-            let rank = cells::get(work, a + 2);
-            made(complete_bare(work, a, b, to, 0, rank))
+            let rank = cells::get(window, LEFT_RANK);
+            made(complete_bare(window, 0, rank))
         }
         Way::Diagonal => {
-            let dense = cells::get(work, a + 1);
-            made(complete_bare(work, a, b, to, 1, dense))
+            let dense = cells::get(window, LEFT_DENSE);
+            made(complete_bare(window, 1, dense))
         }
         Way::Barred => Step::Refused(Refusal::DenseAxes),
         Way::Listing => Step::Refused(Refusal::MadeUnsound),
-        Way::Rows => made(unite_rows(work, a, b, to)),
+        Way::Rows => made(unite_rows(window)),
     }
 }

@@ -1,6 +1,5 @@
 -- `union` from end to end. Assumes nothing.
-use mathlib.Core.Path.{_≡_, refl, sym, _∙_}
-use mathlib.Core.Logic.{inl}
+use mathlib.Core.Path.{_≡_, refl}
 use mathlib.Core.Bool.{not, _||_, _&&_}
 use mathlib.Core.List.{List, [], _∷_}
 use Prim.Native.Nat.{ℕ, _≤_}
@@ -16,18 +15,19 @@ use Rattle.rules.specs.Lists.{if, same}
 use Rattle.rules.specs.Refusals.{Verdict, refused, inForm, numberOf, Reason, _when_, _then_, lowest}
 use Rattle.rules.specs.Layout.{Layout, made, isDense, few, encode}
 use Rattle.rules.specs.Record.{layoutIn}
-use Rattle.rules.specs.Endings.{Ends, stepSays, resultAfter, workAfter}
+use Rattle.rules.specs.Endings.{Ends, resultAfter, workAfter}
 use Rattle.rules.specs.Buffers.{over, zeros}
 use Rattle.rules.specs.CountsAndForms.{toDense}
 use Rattle.rules.specs.Removal.{lowered, lowerD, listsRow, barsExpansion}
 use Rattle.rules.specs.Union.{withMerged, joined, alikeDiagonals, unionOfRows, union, unionCall}
 use Rattle.tables.proofs.Only.{only-same, only-then, only-wider}
-use Rattle.parts.specs.Parts.{layoutAt}
-use Rattle.parts.specs.Answers.{Finished}
+use Rattle.parts.specs.Parts.{workSize, windowSize, target, Window}
+use Rattle.parts.specs.Answers.{PairLoaded, Says, Finished}
+use Rattle.parts.proofs.Lent.{lentOf, backIn}
+use Rattle.parts.proofs.Windows.{window-again, window-only, window-says}
 use Rattle.parts.proofs.Ending.{Late, late-if, late-then, late-lowest, late-made, call-finished, call-refused}
-use Rattle.combine.specs.Uniting.{UnionAsked, UnionMade}
+use Rattle.combine.specs.Uniting.{UnionMade}
 use Rattle.layout.specs.Pairs.{BothRead, RefusedEarly, RefusedLate}
-use Rattle.layout.proofs.Loaded.{Both}
 
 -- ---- a union that is refused is refused with 3 or more
 
@@ -51,19 +51,6 @@ late-union a b =
     (λ _. late-if (isDense a || isDense b) (made dense) other (late-made dense)
     (late-if (alikeDiagonals a b) (made diagonal) (unionOfRows a b) (late-made diagonal) (late-rows a b)))
 
--- ---- what the step asks
-
--- the parts that the union is asked for
-pub union-asked : {s t work now : List ℤ} → 10812 ≤ length work → Both s t work now → UnionAsked 0 1802 3604 now
-union-asked {work} {now} l b =
-    let size : length now ≡ length work = b .only .size in
-    record {
-      both = record { first = b .holds-first; second = b .holds-second };
-      room = omega arith;
-      apart-first = inl (omega arith);
-      apart-second = inl (omega arith);
-    }
-
 -- ---- the ways out
 
 module _ (s t result work : List ℤ) where
@@ -78,17 +65,33 @@ module _ (s t result work : List ℤ) where
 
   -- 3: the working buffer is cleared
   pub union-late : {why : Refusal} {r : Written} {work′ : List ℤ} → RefusedLate s t (length result) (length work) (numberOf why) →
-      (r ≡ Refused why) × (work′ ≡ over (zeros 10812) work) → Ends (inForm encode call) result work r result work′
+      (r ≡ Refused why) × (work′ ≡ over (zeros workSize) work) → Ends (inForm encode call) result work r result work′
   union-late {why} e f =
       let is : call ≡ refused (numberOf why) = unfold unionCall in rw (e .is) in
-      call-refused is (e .late) (only-same 0 10812 work) f
+      call-refused is (e .late) (only-same 0 workSize work) f
 
-  -- the union was made, or is refused
-  pub union-done : {x y : Head} {now next result′ work′ : List ℤ} {step : Step} {r : Written} →
-      BothRead s t (length result) (length work) x y → Both s t work now → UnionMade 0 1802 3604 now next step →
-      Finished step 3604 next result r work′ result′ → Ends (inForm encode call) result work r result′ work′
-  union-done {next} {step} j b u f =
-      let is : call ≡ union (layoutIn s) (layoutIn t) = unfold unionCall in rw (j .none-holds) in
-      let said : stepSays step (layoutAt 3604 next) ≡ call = u .is ∙ rw (b .first, b .second) (sym is) in
-      call-finished {v = call} said (rw is (late-union (layoutIn s) (layoutIn t)))
-      (only-then (b .only) (only-wider (u .only) 0 10812 (omega arith) (omega arith))) f
+  -- the window: both records loaded, and lent again to the step
+  module _ {x y : Head} (j : BothRead s t (length result) (length work) x y) {w : List ℤ} (p : PairLoaded s t w) (w-size : length w ≡ length (lentOf 0 windowSize work)) where
+    abbrev now : List ℤ
+    now = backIn 0 windowSize work w
+
+    pub now-long : workSize ≤ length now
+    now-long = rw (window-only work (j .work-long) w w-size .size) (j .work-long)
+
+    pub union-asked : Window (lentOf 0 windowSize (backIn 0 windowSize work w))
+    union-asked = rw (window-again work (j .work-long) w w-size) (p .holds)
+
+    -- the union was made, or is refused
+    module _ {u : List ℤ} {step : Step} (m : UnionMade (lentOf 0 windowSize (backIn 0 windowSize work w)) u step) where
+      pub union-says : Says call target (backIn 0 windowSize (backIn 0 windowSize work w) u) step
+      unfolding unionCall
+      union-says =
+          window-says now now-long u (m .only .size)
+          (rw (j .none-holds) (rw (window-again work (j .work-long) w w-size, p .first, p .second) at (m .says)))
+
+      pub union-done : {result′ work′ : List ℤ} {r : Written} →
+          Finished step target (backIn 0 windowSize (backIn 0 windowSize work w) u) result r work′ result′ → Ends (inForm encode call) result work r result′ work′
+      union-done f =
+          let is : call ≡ union (layoutIn s) (layoutIn t) = unfold unionCall in rw (j .none-holds) in
+          call-finished {v = call} union-says (rw is (late-union (layoutIn s) (layoutIn t)))
+          (only-wider (only-then (window-only work (j .work-long) w w-size) (window-only now now-long u (m .only .size))) 0 workSize (omega arith) (omega arith)) f

@@ -20,7 +20,7 @@ pub fn to_dense(record: &[i32], result: &mut [i32]) -> Written
     if records::over_record(record) {
         return Written::Refused(Refusal::OverCount);
     }
-    if result.len() < 1802 {
+    if result.len() < parts::PART {
         return Written::Refused(Refusal::ShortBuffer);
     }
     let Walk::To(head) = records::sound_head(record) else {
@@ -36,7 +36,7 @@ pub fn to_data_layout(record: &[i32], result: &mut [i32]) -> Written
     if records::over_record(record) {
         return Written::Refused(Refusal::OverCount);
     }
-    if result.len() < 1802 {
+    if result.len() < parts::PART {
         return Written::Refused(Refusal::ShortBuffer);
     }
     let Walk::To(head) = records::sound_head(record) else {
@@ -62,7 +62,7 @@ pub fn new_empty(rank: i32, result: &mut [i32]) -> Written
     if over_rank(rank) {
         return Written::Refused(Refusal::OverCount);
     }
-    if result.len() < 1802 {
+    if result.len() < parts::PART {
         return Written::Refused(Refusal::ShortBuffer);
     }
     match cells::sign_of(rank) {
@@ -75,7 +75,7 @@ pub fn new_empty(rank: i32, result: &mut [i32]) -> Written
 pub fn new_scalar(result: &mut [i32]) -> Written
     ensures { λ r. ⌜ EndsIn (inForm encode (newScalarCall (length (now (result .entry))))) (now (result .entry)) r (now (result .exit)) ⌝ }
 {
-    if result.len() < 1802 {
+    if result.len() < parts::PART {
         return Written::Refused(Refusal::ShortBuffer);
     }
     forms::new_scalar(result)

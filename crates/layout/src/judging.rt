@@ -32,7 +32,7 @@ pub fn judge_shape(shape: &[i32], room: usize) -> Shape
     if shapes::over_shape(shape) {
         return Shape::Refused(Refusal::OverCount);
     }
-    if room < 1802 {
+    if room < parts::PART {
         return Shape::Refused(Refusal::ShortBuffer);
     }
     if !shapes::good_shape(shape) {
@@ -70,10 +70,10 @@ pub fn judge_pair(left: &[i32], right: &[i32], result: usize, work: usize) -> Pa
     if records::over_record(right) {
         return Pair::Early(Refusal::OverCount);
     }
-    if result < 1802 {
+    if result < parts::PART {
         return Pair::Early(Refusal::ShortBuffer);
     }
-    if work < 10812 {
+    if work < parts::WORK {
         return Pair::Early(Refusal::ShortBuffer);
     }
     let Walk::To(first) = records::sound_head(left) else {

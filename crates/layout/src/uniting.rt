@@ -16,10 +16,9 @@ pub fn union(left: &[i32], right: &[i32], result: &mut [i32], work: &mut [i32]) 
         Pair::Early(why) => Written::Refused(why),
         Pair::Late(why) => parts::refuse(why, work),
         Pair::Heads(first, second) => {
-            parts::load(left, first, work, 0);
-            parts::load(right, second, work, 1802);
-            let step = combine::union_in(work, 0, 1802, 3604);
-            parts::finish(step, work, 3604, result)
+            parts::load_pair(left, first, right, second, &mut work[0..parts::WINDOW]);
+            let step = combine::union_in(&mut work[0..parts::WINDOW]);
+            parts::finish(step, work, parts::TARGET, result)
         }
     }
 }

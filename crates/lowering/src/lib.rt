@@ -78,12 +78,20 @@ pub fn list_full(s: &mut [i32], at: usize, rank: usize, to: usize) -> bool
     requires { ⌜ FullAsked at to rank (now s) ⌝ }
     ensures { λ r. ⌜ Taken to rank (fullRows (layoutAt at (now (s .entry)))) (now (s .entry)) (now (s .exit)) r ⌝ }
 {
-    let w = rank - cells::get(s, at + 1);
-    let count = cells::get(s, at + 7);
-    let size = product(s, at + 3, w, rank);
+    let w = rank - cells::get(s, at + parts::DENSE);
+    let count = cells::get(s, at + parts::ROWS);
+    let size = product(s, at + parts::EXTENTS, w, rank);
     let mut i = 0;
     while i < count {
-        if !list_row(s, at + 8 + i * w, at + 3, w, rank, size, to) {
+        if !list_row(
+            s,
+            at + parts::FIRST_ROW + i * w,
+            at + parts::EXTENTS,
+            w,
+            rank,
+            size,
+            to,
+        ) {
             return false;
         }
         i += 1;
@@ -113,14 +121,14 @@ pub fn lower_into(s: &mut [i32], at: usize, d: usize, to: usize) -> bool
     requires { ⌜ LowerAsked at to d (now s) ⌝ }
     ensures { λ r. ⌜ Listed to (rankAt at (now (s .entry)) - d) (lowered (layoutAt at (now (s .entry))) d .rows) (now (s .entry)) (now (s .exit)) r ⌝ }
 {
-    let rank = cells::get(s, at + 2);
+    let rank = cells::get(s, at + parts::RANK);
     if cells::get(s, at) == 1 {
-        let extent = cells::get(s, at + 3);
+        let extent = cells::get(s, at + parts::EXTENTS);
         cells::store(s, to, 0);
         return list_diagonal(s, to, rank, extent);
     }
-    if cells::get(s, at + 1) == d {
-        tables::sort_into(s, at + 7, to, rank - d);
+    if cells::get(s, at + parts::DENSE) == d {
+        tables::sort_into(s, at + parts::ROWS, to, rank - d);
         return true;
     }
     cells::store(s, to, 0);

@@ -18,101 +18,99 @@ use Rattle.parts.specs.Answers.{numbersOf, TableStored, Stored}
 use Rattle.parts.proofs.Holds.{kind-most, rank-most, dense-most, shape-length, rows-fit, states-ready, inputs-ready}
 use Rattle.parts.proofs.Packing.{low-cons, part-cons, part-is}
 
--- the extents of the part at a place
-abbrev extents : ℕ → List ℤ → List ℕ
-extents at s = part (at + 3) (rankAt at s) (view s)
+-- the extents of a part
+abbrev extents : List ℤ → List ℕ
+extents s = part 3 (rankAt 0 s) (view s)
 
 -- kind, D, R and the extents
-abbrev headNumbers : ℕ → List ℤ → List ℤ
-headNumbers at s = map pos (kindAt at s ∷ denseAt at s ∷ rankAt at s ∷ extents at s)
+abbrev headNumbers : List ℤ → List ℤ
+headNumbers s = map pos (kindAt 0 s ∷ denseAt 0 s ∷ rankAt 0 s ∷ extents s)
 
 -- the sections
-abbrev rowNumbers : ℕ → List ℤ → List ℤ
-rowNumbers at s = numbersOf (tableAt (at + 7) (widthAt at s) s)
+abbrev rowNumbers : List ℤ → List ℤ
+rowNumbers s = numbersOf (tableAt 7 (widthAt 0 s) s)
 
-abbrev stateNumbers : ℕ → List ℤ → List ℤ
-stateNumbers at s = numbersOf (tableAt (at + 520) (rankAt at s + 1) s)
+abbrev stateNumbers : List ℤ → List ℤ
+stateNumbers s = numbersOf (tableAt 520 (rankAt 0 s + 1) s)
 
-abbrev inputNumbers : ℕ → List ℤ → List ℤ
-inputNumbers at s = numbersOf (tableAt (at + 1161) (rankAt at s + 1) s)
+abbrev inputNumbers : List ℤ → List ℤ
+inputNumbers s = numbersOf (tableAt 1161 (rankAt 0 s + 1) s)
 
 -- four lists of numbers, one behind the other
 four-lists : (a b c d : List ℕ) → ((map pos a ++ map pos b) ++ map pos c) ++ map pos d ≡ map pos (((a ++ b) ++ c) ++ d)
 four-lists a b c d = sym (simp map-append)
 
-module _ {at : ℕ} {s : List ℤ} (h : Holds at s) where
+module _ {s : List ℤ} (h : Holds 0 s) where
   -- the head as it stands in the slice
-  head-seen : part at (suc (suc (suc (rankAt at s)))) (view s) ≡ kindAt at s ∷ denseAt at s ∷ rankAt at s ∷ extents at s
+  head-seen : part 0 (suc (suc (suc (rankAt 0 s)))) (view s) ≡ kindAt 0 s ∷ denseAt 0 s ∷ rankAt 0 s ∷ extents s
   head-seen =
-      let long : at + 1802 ≤ length (view s) = rw view-length (h .inside) in
-      let two : at + 1 + 1 ≡ at + 2 = omega arith in
-      let three : at + 2 + 1 ≡ at + 3 = omega arith in
-      part-cons at (suc (suc (rankAt at s))) (view s) (omega arith)
-      ∙ ap (λ (l : List ℕ). kindAt at s ∷ l)
-      (part-cons (at + 1) (suc (rankAt at s)) (view s) (omega arith)
-      ∙ rw two (ap (λ (l : List ℕ). denseAt at s ∷ l) (part-cons (at + 2) (rankAt at s) (view s) (omega arith) ∙ rw three)))
+      let long : 1802 ≤ length (view s) = rw view-length (h .inside) in
+      part-cons 0 (suc (suc (rankAt 0 s))) (view s) (omega arith)
+      ∙ ap (λ (l : List ℕ). kindAt 0 s ∷ l)
+      (part-cons 1 (suc (rankAt 0 s)) (view s) (omega arith)
+      ∙ (ap (λ (l : List ℕ). denseAt 0 s ∷ l) (part-cons 2 (rankAt 0 s) (view s) (omega arith))))
 
   -- the extents are natural numbers
-  extents-low : Low (extents at s)
+  extents-low : Low (extents s)
   unfolding layoutAt
   extents-low k = omega (arith, extent-limited (h .sound .sizes) k)
 
   -- the head's numbers are those that are written for it
-  head-numbers : part at (rankAt at s + 3) s ≡ headNumbers at s
+  head-numbers : part 0 (rankAt 0 s + 3) s ≡ headNumbers s
   head-numbers =
-      let e : rankAt at s + 3 ≡ suc (suc (suc (rankAt at s))) = omega arith in
+      let e : rankAt 0 s + 3 ≡ suc (suc (suc (rankAt 0 s))) = omega arith in
       let r = rank-most h in
       let d = dense-most h in
       let k = kind-most h in
       rw e
-      (part-is at (suc (suc (suc (rankAt at s)))) s head-seen
-      (low-cons (kindAt at s) (denseAt at s ∷ rankAt at s ∷ extents at s) (omega arith)
-      (low-cons (denseAt at s) (rankAt at s ∷ extents at s) (omega arith) (low-cons (rankAt at s) (extents at s) (omega arith) extents-low))))
+      (part-is 0 (suc (suc (suc (rankAt 0 s)))) s head-seen
+      (low-cons (kindAt 0 s) (denseAt 0 s ∷ rankAt 0 s ∷ extents s) (omega arith)
+      (low-cons (denseAt 0 s) (rankAt 0 s ∷ extents s) (omega arith) (low-cons (rankAt 0 s) (extents s) (omega arith) extents-low))))
 
-  head-length : length (headNumbers at s) ≡ rankAt at s + 3
-  head-length = ap length (sym head-numbers) ∙ length-part at (rankAt at s + 3) s (omega (arith, h .inside, rank-most h))
+  head-length : length (headNumbers s) ≡ rankAt 0 s + 3
+  head-length = ap length (sym head-numbers) ∙ length-part 0 (rankAt 0 s + 3) s (omega (arith, h .inside, rank-most h))
 
   -- the record is the head and the sections
-  encoded : ((headNumbers at s ++ rowNumbers at s) ++ stateNumbers at s) ++ inputNumbers at s ≡ encode (layoutAt at s)
+  encoded : ((headNumbers s ++ rowNumbers s) ++ stateNumbers s) ++ inputNumbers s ≡ encode (layoutAt 0 s)
   unfolding encode layoutAt
   encoded =
       rw (shape-length h)
-      (four-lists (kindAt at s ∷ denseAt at s ∷ rankAt at s ∷ extents at s) (section (tableAt (at + 7) (widthAt at s) s))
-      (section (tableAt (at + 520) (rankAt at s + 1) s)) (section (tableAt (at + 1161) (rankAt at s + 1) s)))
+      (four-lists (kindAt 0 s ∷ denseAt 0 s ∷ rankAt 0 s ∷ extents s) (section (tableAt 7 (widthAt 0 s) s))
+      (section (tableAt 520 (rankAt 0 s + 1) s)) (section (tableAt 1161 (rankAt 0 s + 1) s)))
 
   -- the sections are written one behind the other
   module _ {states inputs r : ℕ} (t : List ℤ) {t₁ t₂ t₃ t₄ : List ℤ}
-      (p₁ : t₁ ≡ over (take (at + (rankAt at s + 3) - at) (drop at s)) t)
-      (p₂ : TableStored (at + 7) (widthAt at s) (rankAt at s + 3) s t₁ t₂ states)
-      (p₃ : TableStored (at + 520) (rankAt at s + 1) states s t₂ t₃ inputs)
-      (p₄ : TableStored (at + 1161) (rankAt at s + 1) inputs s t₃ t₄ r) where
-    head-over : t₁ ≡ over (headNumbers at s) t
+      (p₁ : t₁ ≡ over (take (rankAt 0 s + 3) s) t)
+      (p₂ : TableStored 7 (widthAt 0 s) (rankAt 0 s + 3) s t₁ t₂ states)
+      (p₃ : TableStored 520 (rankAt 0 s + 1) states s t₂ t₃ inputs)
+      (p₄ : TableStored 1161 (rankAt 0 s + 1) inputs s t₃ t₄ r) where
+    head-over : t₁ ≡ over (headNumbers s) t
     unfolding part
-    head-over = let e : at + (rankAt at s + 3) - at ≡ rankAt at s + 3 = omega arith in p₁ ∙ rw (e, head-numbers)
+    head-over = p₁ ∙ rw head-numbers
 
-    rows-over : t₂ ≡ over (headNumbers at s ++ rowNumbers at s) t
-    rows-over = p₂ .is ∙ rw head-over (put-over (rankAt at s + 3) (headNumbers at s) (rowNumbers at s) t head-length)
+    rows-over : t₂ ≡ over (headNumbers s ++ rowNumbers s) t
+    rows-over = p₂ .is ∙ rw head-over (put-over (rankAt 0 s + 3) (headNumbers s) (rowNumbers s) t head-length)
 
-    states-over : t₃ ≡ over ((headNumbers at s ++ rowNumbers at s) ++ stateNumbers at s) t
+    states-over : t₃ ≡ over ((headNumbers s ++ rowNumbers s) ++ stateNumbers s) t
     states-over =
         p₃ .is
         ∙ rw rows-over
-        (put-over states (headNumbers at s ++ rowNumbers at s) (stateNumbers at s) t (rw length-append (omega (arith, p₂ .next, head-length))))
+        (put-over states (headNumbers s ++ rowNumbers s) (stateNumbers s) t (rw length-append (omega (arith, p₂ .next, head-length))))
 
-    inputs-over : t₄ ≡ over (((headNumbers at s ++ rowNumbers at s) ++ stateNumbers at s) ++ inputNumbers at s) t
+    inputs-over : t₄ ≡ over (((headNumbers s ++ rowNumbers s) ++ stateNumbers s) ++ inputNumbers s) t
     inputs-over =
         p₄ .is
         ∙ rw states-over
-        (put-over inputs ((headNumbers at s ++ rowNumbers at s) ++ stateNumbers at s) (inputNumbers at s) t
+        (put-over inputs ((headNumbers s ++ rowNumbers s) ++ stateNumbers s) (inputNumbers s) t
         (simp length-append (omega (arith, p₂ .next, p₃ .next, head-length))))
 
-    stored : Stored at s t t₄ r
+    stored : Stored s t t₄ r
     stored = record {
       is = inputs-over ∙ ap (λ (l : List ℤ). over l t) encoded;
       count = rw (← encoded) (simp length-append (omega (arith, p₂ .next, p₃ .next, p₄ .next, head-length)));
     }
 
-  module _ {rank dense : ℕ} (er : rank ≡ rankAt at s) (ed : dense ≡ denseAt at s) where
+  module _ {rank dense : ℕ} (er : rank ≡ rankAt 0 s) (ed : dense ≡ denseAt 0 s) where
     -- how far the rank and D go
     pub rank-few : rank ≤ 4
     rank-few = rw er (rank-most h)
@@ -121,17 +119,17 @@ module _ {at : ℕ} {s : List ℤ} (h : Holds at s) where
     dense-within = rw (er, ed) (dense-most h)
 
     -- the tables are there
-    pub rows-there : Fits (at + 7) (rank - dense) s
+    pub rows-there : Fits 7 (rank - dense) s
     rows-there = rw (er, ed) (rows-fit h)
 
-    pub states-there : Fits (at + 520) (rank + 1) s
+    pub states-there : Fits 520 (rank + 1) s
     states-there = rw er (states-ready h .fits)
 
-    pub inputs-there : Fits (at + 1161) (rank + 1) s
+    pub inputs-there : Fits 1161 (rank + 1) s
     inputs-there = rw er (inputs-ready h .fits)
 
     -- the record is written, by the rank and D that were read
-    pub layout-stored : {states inputs r : ℕ} {t t₁ t₂ t₃ t₄ : List ℤ} → t₁ ≡ over (take (at + (rank + 3) - at) (drop at s)) t →
-        TableStored (at + 7) (rank - dense) (rank + 3) s t₁ t₂ states → TableStored (at + 520) (rank + 1) states s t₂ t₃ inputs →
-        TableStored (at + 1161) (rank + 1) inputs s t₃ t₄ r → Stored at s t t₄ r
+    pub layout-stored : {states inputs r : ℕ} {t t₁ t₂ t₃ t₄ : List ℤ} → t₁ ≡ over (take (rank + 3) s) t →
+        TableStored 7 (rank - dense) (rank + 3) s t₁ t₂ states → TableStored 520 (rank + 1) states s t₂ t₃ inputs →
+        TableStored 1161 (rank + 1) inputs s t₃ t₄ r → Stored s t t₄ r
     layout-stored {t = t} p₁ p₂ p₃ p₄ = stored t (rw er at p₁) (rw (er, ed) at p₂) (rw er at p₃) (rw er at p₄)

@@ -21,17 +21,17 @@ use Rattle.rules.specs.Endings.{stepSays, resultAfter, workAfter, Ends}
 use Rattle.rules.proofs.Same.{both-true}
 use Rattle.rules.proofs.Buffers.{length-zeros}
 use Rattle.tables.specs.Tables.{Only}
-use Rattle.parts.specs.Parts.{layoutAt}
-use Rattle.parts.specs.Answers.{Stored, Finished}
+use Rattle.parts.specs.Parts.{workSize, layoutAt}
+use Rattle.parts.specs.Answers.{Stored, Says, Finished}
 
 -- ---- `finish`
 
-module _ {step : Step} {at : ℕ} {work result work′ : List ℤ} (w : work′ ≡ over (zeros 10812) work) where
+module _ {step : Step} {at : ℕ} {work result work′ : List ℤ} (w : work′ ≡ over (zeros workSize) work) where
   -- a layout was made, and stored
-  pub finished-done : {n : ℕ} {result′ : List ℤ} → step ≡ Done → Stored at work result result′ n →
+  pub finished-done : {part : List ℤ} {n : ℕ} {result′ : List ℤ} → step ≡ Done → layoutAt 0 part ≡ layoutAt at work → Stored part result result′ n →
       Finished step at work result (Numbers n) work′ result′
   unfolding resultAfter
-  finished-done e s = record { answer = rw e (ap given (s .count)); result-is = rw e (s .is); work-is = w }
+  finished-done e l s = record { answer = rw (e, ← l) (ap given (s .count)); result-is = rw (e, ← l) (s .is); work-is = w }
 
   -- the step was refused
   pub finished-refused : {x : Refusal} {r : Written} → step ≡ NoStep x → r ≡ Refused x → Finished step at work result r work′ result
@@ -82,19 +82,19 @@ unfolding over
 cleared n o = rw (length-zeros n, o .behind)
 
 -- a late verdict clears the working buffer
-late-work : (v : Verdict Layout) → Late v → (work : List ℤ) → workAfter (inForm encode v) work ≡ over (zeros 10812) work
+late-work : (v : Verdict Layout) → Late v → (work : List ℤ) → workAfter (inForm encode v) work ≡ over (zeros workSize) work
 unfolding workAfter
 late-work (given l) p work = refl
 late-work (refused n) p work = rw (ne-eqb n 1 (λ e. omega arith), ne-eqb n 2 (λ e. omega arith))
 
 -- a call that ends with `finish`, whose step said v
 pub call-finished : {v : Verdict Layout} {step : Step} {at : ℕ} {work now work′ result result′ : List ℤ} {r : Written} →
-    stepSays step (layoutAt at now) ≡ v → Late v → Only 0 10812 work now → Finished step at now result r work′ result′ →
+    Says v at now step → Late v → Only 0 workSize work now → Finished step at now result r work′ result′ →
     Ends (inForm encode v) result work r result′ work′
 call-finished {v} {step} {at} {work} {now} e late o f = record {
-  answer = rw e at (f .answer);
-  result-is = rw e at (f .result-is);
-  work-is = f .work-is ∙ cleared 10812 o ∙ sym (late-work v late work);
+  answer = rw (e .is) at (f .answer);
+  result-is = rw (e .is) at (f .result-is);
+  work-is = f .work-is ∙ cleared workSize o ∙ sym (late-work v late work);
 }
 
 -- a call that is refused before anything is written: a count over its limit, or a buffer that is too short
@@ -110,11 +110,11 @@ call-short result work e = rw e (record { answer = refl; result-is = refl; work-
 
 -- a call that ends with `refuse`
 pub call-refused : {v : Verdict Layout} {x : Refusal} {work now work′ result : List ℤ} {r : Written} →
-    v ≡ refused (numberOf x) → 3 ≤ numberOf x → Only 0 10812 work now → (r ≡ Refused x) × (work′ ≡ over (zeros 10812) now) →
+    v ≡ refused (numberOf x) → 3 ≤ numberOf x → Only 0 workSize work now → (r ≡ Refused x) × (work′ ≡ over (zeros workSize) now) →
     Ends (inForm encode v) result work r result work′
 unfolding resultAfter
 call-refused {v} {x} {work} {now} e late o f = rw e (record {
   answer = rw (f .0);
   result-is = refl;
-  work-is = f .1 ∙ cleared 10812 o ∙ sym (late-work (refused (numberOf x)) late work);
+  work-is = f .1 ∙ cleared workSize o ∙ sym (late-work (refused (numberOf x)) late work);
 })

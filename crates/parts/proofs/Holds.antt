@@ -1,8 +1,8 @@
 -- What is known of a part that holds a layout, and that writing elsewhere leaves it as it was. Assumes nothing.
-use mathlib.Core.Path.{_≡_}
+use mathlib.Core.Path.{_≡_, refl, sym, ap, _∙_}
 use mathlib.Core.List.{List}
-use mathlib.Core.Logic.{_⊎_, inl, inr, ⊎-elim}
-use Prim.Native.Nat.{ℕ, _+_, _≤_, _<_}
+use Prim.Native.Nat.{ℕ, _+_, _*_, _≤_}
+use native.Mathlib.Nat.{add-zero, mul-le-mul-right}
 use native.Mathlib.Omega.{arith}
 use lib.IntN.{ℤ}
 use lib.ListN.{length, getD, length-take, length-drop}
@@ -11,11 +11,12 @@ use Rattle.rules.specs.Layout.{rank}
 use Rattle.rules.proofs.Buffers.{length-part}
 use Rattle.rules.proofs.Low.{rows-low}
 use Rattle.cells.specs.View.{view}
-use Rattle.cells.proofs.View.{view-length}
-use Rattle.tables.specs.Tables.{tableAt, roomEnd, Only, Fits, Ready}
-use Rattle.tables.proofs.Only.{view-outside, row-outside, table-outside}
+use Rattle.cells.proofs.View.{view-length, view-part}
+use Rattle.tables.specs.Tables.{tableAt, Only, Fits, Ready}
+use Rattle.tables.proofs.Only.{part-outside}
 use Rattle.tables.proofs.Tables.{table-length}
 use Rattle.parts.specs.Parts.{kindAt, denseAt, rankAt, widthAt, layoutAt, Holds, Apart}
+use Rattle.parts.proofs.Copied.{number-copied, part-copied, table-copied}
 
 -- the extents of a rank of at most 4 are all there, so a rank is at most 4 if they are
 rank-by : (at : ℕ) (s : List ℤ) → at + 1802 ≤ length s → length (part (at + 3) (rankAt at s) (view s)) ≤ 4 → rankAt at s ≤ 4
@@ -84,55 +85,64 @@ module _ {at : ℕ} {s : List ℤ} (h : Holds at s) where
     increasing = h .sound .form .inputs-fit .increase;
   }
 
+-- ---- the same numbers elsewhere
+
+-- the part at b of t has the numbers of the part at a of s
+pub record Moved (a b : ℕ) (s t : List ℤ) : Type 0 where
+  pub numbers : part b 1802 t ≡ part a 1802 s
+
+module _ {a b : ℕ} {s t : List ℤ} (m : Moved a b s t) where
+  kind-moved : kindAt b t ≡ kindAt a s
+  kind-moved = simp add-zero at (number-copied b a 1802 s t (m .numbers) 0 (omega arith))
+
+  dense-moved : denseAt b t ≡ denseAt a s
+  dense-moved = number-copied b a 1802 s t (m .numbers) 1 (omega arith)
+
+  pub rank-moved : rankAt b t ≡ rankAt a s
+  rank-moved = number-copied b a 1802 s t (m .numbers) 2 (omega arith)
+
+  module _ (h : Holds a s) where
+    shape-moved : part (b + 3) (rankAt a s) (view t) ≡ part (a + 3) (rankAt a s) (view s)
+    shape-moved =
+        let r = rank-most h in
+        sym (view-part (b + 3) (rankAt a s) t) ∙ ap view (part-copied b a 1802 s t (m .numbers) 3 (rankAt a s) (omega arith)) ∙ view-part (a + 3) (rankAt a s) s
+
+    table-moved : (k w : ℕ) → Fits (a + k) w s → k + 1 + 128 * w ≤ 1802 → tableAt (b + k) w t ≡ tableAt (a + k) w s
+    unfolding tableAt
+    table-moved k w f l =
+        let n : ℕ = getD (view s) (a + k) 0 in
+        let small : n * w ≤ 128 * w = mul-le-mul-right w (f .few) in
+        table-copied (b + k) (a + k) (1 + n * w) s t (part-copied b a 1802 s t (m .numbers) k (1 + n * w) (omega arith)) w n refl (omega arith)
+
+    -- the layout is the same
+    pub layout-moved : layoutAt b t ≡ layoutAt a s
+    unfolding layoutAt
+    layout-moved =
+        let r = rank-most h in
+        rw (
+          kind-moved,
+          dense-moved,
+          rank-moved,
+          shape-moved,
+          table-moved 7 (widthAt a s) (rows-fit h) (omega arith),
+          table-moved 520 (rankAt a s + 1) (states-ready h .fits) (omega arith),
+          table-moved 1161 (rankAt a s + 1) (inputs-ready h .fits) (omega arith),
+        )
+
+    pub holds-moved : b + 1802 ≤ length t → Holds b t
+    holds-moved l = record { inside = l; sound = rw layout-moved (h .sound); low = rw layout-moved (h .low) }
+
 -- ---- writing elsewhere
 
 module _ {at a e : ℕ} {s t : List ℤ} (o : Only a e s t) (d : Apart at a e) where
-  -- what lies in the part lies apart
-  inner : (p n : ℕ) → at ≤ p → p + n ≤ at + 1802 → (p + n ≤ a) ⊎ (e ≤ p)
-  inner p n h l = ⊎-elim (λ x. inl (omega arith)) (λ x. inr (omega arith)) d
-
-  -- a number of the part stays
-  number-apart : (i : ℕ) → at ≤ i → i < at + 1802 → getD (view t) i 0 ≡ getD (view s) i 0
-  number-apart i h l = view-outside o i (⊎-elim (λ x. inl (omega arith)) (λ x. inr (omega arith)) d)
-
-  pub kind-outside : kindAt at t ≡ kindAt at s
-  kind-outside = number-apart at (omega arith) (omega arith)
-
-  pub dense-outside : denseAt at t ≡ denseAt at s
-  dense-outside = number-apart (at + 1) (omega arith) (omega arith)
+  stays : Moved at at s t
+  stays = record { numbers = part-outside o at 1802 d }
 
   pub rank-outside : rankAt at t ≡ rankAt at s
-  rank-outside = number-apart (at + 2) (omega arith) (omega arith)
+  rank-outside = rank-moved stays
 
-  module _ (h : Holds at s) where
-    pub shape-outside : part (at + 3) (rankAt at t) (view t) ≡ part (at + 3) (rankAt at s) (view s)
-    shape-outside =
-        let r = rank-most h in
-        rw rank-outside (row-outside o (at + 3) (rankAt at s) (inner (at + 3) (rankAt at s) (omega arith) (omega arith)))
+  pub layout-outside : Holds at s → layoutAt at t ≡ layoutAt at s
+  layout-outside h = layout-moved stays h
 
-    -- a table stays
-    table-apart : {p w : ℕ} → Fits p w s → at ≤ p → roomEnd p w ≤ at + 1802 → tableAt p w t ≡ tableAt p w s
-    table-apart {p} {w} f k l = table-outside o p w (f .few) (⊎-elim (λ x. inl (omega arith)) (λ x. inr (omega arith)) d)
-
-    -- the layout stays
-    pub layout-outside : layoutAt at t ≡ layoutAt at s
-    unfolding layoutAt
-    layout-outside =
-        let r = rank-most h in
-        rw (
-          kind-outside,
-          dense-outside,
-          rank-outside,
-          table-apart (rows-fit h) (omega arith) (omega arith),
-          table-apart (states-ready h .fits) (omega arith) (omega arith),
-          table-apart (inputs-ready h .fits) (omega arith) (omega arith),
-        )
-        (rw (rw rank-outside at shape-outside))
-
-    -- the part still holds it
-    pub holds-outside : Holds at t
-    holds-outside = record {
-      inside = rw (o .size) (h .inside);
-      sound = rw layout-outside (h .sound);
-      low = rw layout-outside (h .low);
-    }
+  pub holds-outside : Holds at s → Holds at t
+  holds-outside h = holds-moved stays h (rw (o .size) (h .inside))

@@ -1,5 +1,8 @@
--- Laws about parts: taken from a record, written as one, and the end of a call.
+-- Laws about parts: taken from a record, written as one, lent, and the end of a call.
+pub mod Copied
 pub mod Holds
+pub mod Lent
+pub mod Windows
 pub mod Loading
 pub mod Packing
 pub mod Encoding

@@ -26,6 +26,7 @@ use Rattle.records.proofs.Layouts.{axes, seen, has-states, has-inputs}
 use Rattle.records.proofs.SoundRecords.{lies, layout-sound, layout-shown}
 use Rattle.parts.specs.Parts.{kindAt, denseAt, rankAt, layoutAt}
 use Rattle.parts.specs.Answers.{Loaded}
+use Rattle.parts.proofs.Copied.{number-copied, part-copied, table-copied}
 
 -- ---- numbers that are copied
 
@@ -43,25 +44,6 @@ copied a b n s t h l e =
 -- one write, and another one behind it
 only-on : {a f b e : ℕ} {t u v : List ℤ} → Only a f t u → Only b e u v → a ≤ b → f ≤ e → Only a e t v
 only-on {a} {f} {b} {e} o q h l = only-then (only-wider o a e (omega arith) l) (only-wider q a e h (omega arith))
-
-module _ (a b n : ℕ) (s t : List ℤ) (e : part a n t ≡ part b n s) where
-  -- one of them
-  number-copied : (k : ℕ) → k < n → getD (view t) (a + k) 0 ≡ getD (view s) (b + k) 0
-  number-copied k h =
-      let same : part a n (view t) ≡ part b n (view s) = sym (view-part a n t) ∙ ap view e ∙ view-part b n s in
-      sym (row-number a n k t h) ∙ ap (λ (l : List ℕ). getD l k 0) same ∙ row-number b n k s h
-
-  -- some of them
-  part-copied : (k m : ℕ) → k + m ≤ n → part (a + k) m t ≡ part (b + k) m s
-  part-copied k m h = sym (part-part a n k m t h) ∙ ap (part k m) e ∙ part-part b n k m s h
-
-  -- a table
-  table-copied : (w c : ℕ) → getD (view s) b 0 ≡ c → 1 + c * w ≤ n → tableAt a w t ≡ rowsAt (b + 1) w c s
-  table-copied w c f h =
-      let first : getD (view t) a 0 ≡ getD (view s) b 0 = simp add-zero at (number-copied 0 (omega arith)) in
-      table-rows a w c t (sym (first ∙ f)) ∙ rows-part (a + 1) w c t
-      ∙ ap (λ (l : List ℤ). rowsOf w c (view l)) (part-copied 1 (c * w) h)
-      ∙ sym (rows-part (b + 1) w c s)
 
 -- ---- the places of a record's sections
 
@@ -108,100 +90,100 @@ module _ {h : Head} {s : List ℤ} (r : SoundRecord h s) where
 
   -- ---- the part after the four writes
 
-  module _ (at : ℕ) (t : List ℤ) {t₁ t₂ t₃ t₄ : List ℤ} (room : at + 1802 ≤ length t)
-      (p₁ : t₁ ≡ put at (part 0 (h .rank + 3 - 0) s) t)
-      (p₂ : t₂ ≡ put (at + 7) (part (h .rank + 3) (h .rows .next - (h .rank + 3)) s) t₁)
-      (p₃ : t₃ ≡ put (at + 520) (part (h .rows .next) (h .states .next - h .rows .next) s) t₂)
-      (p₄ : t₄ ≡ put (at + 1161) (part (h .states .next) (h .inputs .next - h .states .next) s) t₃) where
+  module _ (t : List ℤ) {t₁ t₂ t₃ t₄ : List ℤ} (room : 1802 ≤ length t)
+      (p₁ : t₁ ≡ put 0 (part 0 (h .rank + 3 - 0) s) t)
+      (p₂ : t₂ ≡ put 7 (part (h .rank + 3) (h .rows .next - (h .rank + 3)) s) t₁)
+      (p₃ : t₃ ≡ put 520 (part (h .rows .next) (h .states .next - h .rows .next) s) t₂)
+      (p₄ : t₄ ≡ put 1161 (part (h .states .next) (h .inputs .next - h .states .next) s) t₃) where
     -- each write
-    c₁ : Copied at 0 (h .rank + 3 - 0) s t t₁
-    c₁ = let b = places in copied at 0 (h .rank + 3 - 0) s t (omega arith) (omega arith) p₁
+    c₁ : Copied 0 0 (h .rank + 3 - 0) s t t₁
+    c₁ = let b = places in copied 0 0 (h .rank + 3 - 0) s t (omega arith) (omega arith) p₁
 
-    c₂ : Copied (at + 7) (h .rank + 3) (h .rows .next - (h .rank + 3)) s t₁ t₂
-    c₂ = let b = places in copied (at + 7) (h .rank + 3) (h .rows .next - (h .rank + 3)) s t₁ (omega arith) (omega (arith, c₁ .only .size)) p₂
+    c₂ : Copied 7 (h .rank + 3) (h .rows .next - (h .rank + 3)) s t₁ t₂
+    c₂ = let b = places in copied 7 (h .rank + 3) (h .rows .next - (h .rank + 3)) s t₁ (omega arith) (omega (arith, c₁ .only .size)) p₂
 
-    c₃ : Copied (at + 520) (h .rows .next) (h .states .next - h .rows .next) s t₂ t₃
+    c₃ : Copied 520 (h .rows .next) (h .states .next - h .rows .next) s t₂ t₃
     c₃ =
         let b = places in
-        copied (at + 520) (h .rows .next) (h .states .next - h .rows .next) s t₂ (omega arith) (omega (arith, c₁ .only .size, c₂ .only .size)) p₃
+        copied 520 (h .rows .next) (h .states .next - h .rows .next) s t₂ (omega arith) (omega (arith, c₁ .only .size, c₂ .only .size)) p₃
 
-    c₄ : Copied (at + 1161) (h .states .next) (h .inputs .next - h .states .next) s t₃ t₄
+    c₄ : Copied 1161 (h .states .next) (h .inputs .next - h .states .next) s t₃ t₄
     c₄ =
         let b = places in
-        copied (at + 1161) (h .states .next) (h .inputs .next - h .states .next) s t₃ (omega arith)
+        copied 1161 (h .states .next) (h .inputs .next - h .states .next) s t₃ (omega arith)
         (omega (arith, c₁ .only .size, c₂ .only .size, c₃ .only .size)) p₄
 
     -- what is written later stands behind
-    from-inputs : Only (at + 1161) (at + 1802) t₃ t₄
-    from-inputs = let b = places in only-wider (c₄ .only) (at + 1161) (at + 1802) (omega arith) (omega arith)
+    from-inputs : Only 1161 1802 t₃ t₄
+    from-inputs = let b = places in only-wider (c₄ .only) 1161 1802 (omega arith) (omega arith)
 
-    from-states : Only (at + 520) (at + 1802) t₂ t₄
+    from-states : Only 520 1802 t₂ t₄
     from-states = let b = places in only-on (c₃ .only) from-inputs (omega arith) (omega arith)
 
-    from-rows : Only (at + 7) (at + 1802) t₁ t₄
+    from-rows : Only 7 1802 t₁ t₄
     from-rows = let b = places in only-on (c₂ .only) from-states (omega arith) (omega arith)
 
-    from-head : Only at (at + 1802) t t₄
+    from-head : Only 0 1802 t t₄
     from-head = let b = places in only-on (c₁ .only) from-rows (omega arith) (omega arith)
 
     -- each section in the end
-    head-there : part at (h .rank + 3 - 0) t₄ ≡ part 0 (h .rank + 3 - 0) s
-    head-there = let b = places in part-outside from-rows at (h .rank + 3 - 0) (inl (omega arith)) ∙ c₁ .there
+    head-there : part 0 (h .rank + 3 - 0) t₄ ≡ part 0 (h .rank + 3 - 0) s
+    head-there = let b = places in part-outside from-rows 0 (h .rank + 3 - 0) (inl (omega arith)) ∙ c₁ .there
 
-    rows-there : tableAt (at + 7) (h .width) t₄ ≡ rowsAt (h .rows .first) (h .width) (h .rows .count) s
+    rows-there : tableAt 7 (h .width) t₄ ≡ rowsAt (h .rows .first) (h .width) (h .rows .count) s
     rows-there =
         let b = places in
         let size : ℕ = h .rows .next - (h .rank + 3) in
-        let there : part (at + 7) size t₄ ≡ part (h .rank + 3) size s =
-        part-outside from-states (at + 7) size (inl (omega arith)) ∙ c₂ .there in
+        let there : part 7 size t₄ ≡ part (h .rank + 3) size s =
+        part-outside from-states 7 size (inl (omega arith)) ∙ c₂ .there in
         let l = section-size (p .head .rows) in
-        rw (p .head .rows .first) (table-copied (at + 7) (h .rank + 3) size s t₄ there (h .width) (h .rows .count) (l .0) (l .1))
+        rw (p .head .rows .first) (table-copied 7 (h .rank + 3) size s t₄ there (h .width) (h .rows .count) (l .0) (l .1))
 
-    states-there : tableAt (at + 520) (h .rank + 1) t₄ ≡ rowsAt (h .states .first) (h .rank + 1) (h .states .count) s
+    states-there : tableAt 520 (h .rank + 1) t₄ ≡ rowsAt (h .states .first) (h .rank + 1) (h .states .count) s
     states-there =
         let b = places in
         let size : ℕ = h .states .next - h .rows .next in
-        let there : part (at + 520) size t₄ ≡ part (h .rows .next) size s =
-        part-outside from-inputs (at + 520) size (inl (omega arith)) ∙ c₃ .there in
+        let there : part 520 size t₄ ≡ part (h .rows .next) size s =
+        part-outside from-inputs 520 size (inl (omega arith)) ∙ c₃ .there in
         let l = section-size (p .head .states) in
-        rw (p .head .states .first) (table-copied (at + 520) (h .rows .next) size s t₄ there (h .rank + 1) (h .states .count) (l .0) (l .1))
+        rw (p .head .states .first) (table-copied 520 (h .rows .next) size s t₄ there (h .rank + 1) (h .states .count) (l .0) (l .1))
 
-    inputs-there : tableAt (at + 1161) (h .rank + 1) t₄ ≡ rowsAt (h .inputs .first) (h .rank + 1) (h .inputs .count) s
+    inputs-there : tableAt 1161 (h .rank + 1) t₄ ≡ rowsAt (h .inputs .first) (h .rank + 1) (h .inputs .count) s
     inputs-there =
         let size : ℕ = h .inputs .next - h .states .next in
         let l = section-size (p .head .inputs) in
         rw (p .head .inputs .first)
-        (table-copied (at + 1161) (h .states .next) size s t₄ (c₄ .there) (h .rank + 1) (h .inputs .count) (l .0) (l .1))
+        (table-copied 1161 (h .states .next) size s t₄ (c₄ .there) (h .rank + 1) (h .inputs .count) (l .0) (l .1))
 
     -- the head
-    number-there : (k : ℕ) → k < 3 → getD (view t₄) (at + k) 0 ≡ getD (view s) (0 + k) 0
-    number-there k l = number-copied at 0 (h .rank + 3 - 0) s t₄ head-there k (omega arith)
+    number-there : (k : ℕ) → k < 3 → getD (view t₄) (0 + k) 0 ≡ getD (view s) (0 + k) 0
+    number-there k l = number-copied 0 0 (h .rank + 3 - 0) s t₄ head-there k (omega arith)
 
-    kind-there : kindAt at t₄ ≡ getD (view s) 0 0
+    kind-there : kindAt 0 t₄ ≡ getD (view s) 0 0
     kind-there = simp add-zero at (number-there 0 (omega arith))
 
-    dense-there : denseAt at t₄ ≡ getD (view s) 1 0
+    dense-there : denseAt 0 t₄ ≡ getD (view s) 1 0
     dense-there = number-there 1 (omega arith)
 
-    rank-there : rankAt at t₄ ≡ h .rank
+    rank-there : rankAt 0 t₄ ≡ h .rank
     rank-there = number-there 2 (omega arith) ∙ view-getD s 2 ∙ ap code (p .head .rank)
 
-    shape-there : part (at + 3) (h .rank) (view t₄) ≡ part 3 (h .rank) (view s)
+    shape-there : part 3 (h .rank) (view t₄) ≡ part 3 (h .rank) (view s)
     shape-there =
-        sym (view-part (at + 3) (h .rank) t₄)
-        ∙ ap view (part-copied at 0 (h .rank + 3 - 0) s t₄ head-there 3 (h .rank) (omega arith))
+        sym (view-part 3 (h .rank) t₄)
+        ∙ ap view (part-copied 0 0 (h .rank + 3 - 0) s t₄ head-there 3 (h .rank) (omega arith))
         ∙ view-part 3 (h .rank) s
 
     -- the layout of the part is the one that the record shows
-    layout-there : layoutAt at t₄ ≡ seen h s
+    layout-there : layoutAt 0 t₄ ≡ seen h s
     unfolding layoutAt
     layout-there =
         let width : h .rank - getD (view s) 1 0 ≡ h .width = omega (arith, axes p) in
         rw (kind-there, dense-there, rank-there, width, shape-there, rows-there, states-there, inputs-there)
 
-    pub is-loaded : Loaded at s t t₄
+    pub is-loaded : Loaded s t₄
     is-loaded =
-        let same : layoutAt at t₄ ≡ layoutIn s = layout-there ∙ sym (layout-shown r) in
+        let same : layoutAt 0 t₄ ≡ layoutIn s = layout-there ∙ sym (layout-shown r) in
         record {
           layout = same;
           holds = record {
@@ -209,5 +191,4 @@ module _ {h : Head} {s : List ℤ} (r : SoundRecord h s) where
             sound = rw same (layout-sound r);
             low = rw layout-there (record { states-low = has-states p .low; inputs-low = has-inputs p .low });
           };
-          only = from-head;
         }

@@ -16,6 +16,29 @@ use Rattle.tables.specs.Tables.{tableAt}
 abbrev pub partSize : ℕ
 partSize = 1802
 
+-- the numbers of the working buffer: six parts
+abbrev pub workSize : ℕ
+workSize = 10812
+
+-- a window of five parts: two layouts, the one that is made of them, and spare room
+abbrev pub windowSize : ℕ
+windowSize = 9010
+
+abbrev pub left : ℕ
+left = 0
+
+abbrev pub right : ℕ
+right = 1802
+
+abbrev pub target : ℕ
+target = 3604
+
+abbrev pub spare : ℕ
+spare = 5406
+
+abbrev pub otherSpare : ℕ
+otherSpare = 7208
+
 abbrev pub kindAt : ℕ → List ℤ → ℕ
 kindAt at s = getD (view s) at 0
 
@@ -45,6 +68,12 @@ pub record Holds (at : ℕ) (s : List ℤ) : Type 0 where
   pub inside : at + 1802 ≤ length s
   pub sound : Sound (layoutAt at s)
   pub low : DepsLow (layoutAt at s)
+
+-- a window of five parts has a layout in each of its first two
+pub record Window (s : List ℤ) : Type 0 where
+  pub first : Holds left s
+  pub second : Holds right s
+  pub room : windowSize ≤ length s
 
 -- what stands from a up to e is apart from the part at a place
 abbrev pub Apart : ℕ → ℕ → ℕ → Type 0

@@ -16,12 +16,6 @@ get-requires-2 c κs = search needs
 returns-2 : tie.Need-returns-2
 returns-2 c = search (needs, laws)
 
-add-same : tie.Need-add-same
-add-same c = search needs
-
-add-same-2 : tie.Need-add-same-2
-add-same-2 c = search needs
-
 same-requires : tie.Need-same-requires
 same-requires c κs = search needs
 
@@ -36,7 +30,5 @@ alike-diagonals-spec =
     returns
     get-requires-2
     returns-2
-    add-same
-    add-same-2
     same-requires
     returns-3)

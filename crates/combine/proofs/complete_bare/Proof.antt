@@ -4,9 +4,6 @@ use Rattle.combine.proofs.Completing.{laws}
 use Rattle.combine.proofs.complete_bare.Statement.{statement}
 use Rattle.combine.proofs.complete_bare.Tie as tie
 
-add-store : tie.Need-add-store
-add-store c = search needs
-
 store-requires : tie.Need-store-requires
 store-requires c κs = search needs
 
@@ -21,4 +18,4 @@ returns c = search (needs, laws)
 
 pub complete-bare-spec : {M : Type 1} → statement M
 complete-bare-spec =
-    tie.close (tie.spec add-store store-requires complete-requires same-length returns)
+    tie.close (tie.spec store-requires complete-requires same-length returns)

@@ -6,17 +6,11 @@ use Rattle.combine.proofs.Joining.{lower-rank, ask-first, first-stop, a
 use Rattle.combine.proofs.join_rows.Statement.{statement}
 use Rattle.combine.proofs.join_rows.Tie as tie
 
-add-get : tie.Need-add-get
-add-get c = search needs
-
 get-requires : tie.Need-get-requires
 get-requires c κs = search needs
 
 sub-w : tie.Need-sub-w
 sub-w c = omega (arith, lower-rank (c .before .before .pre))
-
-add-lower-into : tie.Need-add-lower-into
-add-lower-into c = search needs
 
 lower-into-requires : tie.Need-lower-into-requires
 lower-into-requires c κs = ask-first (c .before .before .before .pre)
@@ -29,9 +23,6 @@ returns c =
     let x = c .before .before in
     let g = x .before .before in
     first-stop (g .before .before .pre) (x .lower-into .ensures) (not-true (x .lower-into .result) (c .if1 .taken))
-
-add-lower-into-2 : tie.Need-add-lower-into-2
-add-lower-into-2 c = search needs
 
 lower-into-requires-2 : tie.Need-lower-into-requires-2
 lower-into-requires-2 c κs =
@@ -49,15 +40,6 @@ returns-2 c =
     let x = f .before .before in
     let g = x .before .before in
     second-stop (g .before .before .pre) (x .lower-into .ensures) (not-false (x .lower-into .result) (f .if1 .left)) (y .lower-into2 .ensures) (not-true (y .lower-into2 .result) (c .if2 .taken))
-
-add-merge-into : tie.Need-add-merge-into
-add-merge-into c = search needs
-
-add-merge-into-2 : tie.Need-add-merge-into-2
-add-merge-into-2 c = search needs
-
-add-merge-into-3 : tie.Need-add-merge-into-3
-add-merge-into-3 c = search needs
 
 merge-into-requires : tie.Need-merge-into-requires
 merge-into-requires c κs =
@@ -86,20 +68,14 @@ pub join-rows-spec : {M : Type 1} → statement M
 join-rows-spec =
     tie.close
     (tie.spec
-    add-get
     get-requires
     sub-w
-    add-lower-into
     lower-into-requires
     same-length
     returns
-    add-lower-into-2
     lower-into-requires-2
     same-length-2
     returns-2
-    add-merge-into
-    add-merge-into-2
-    add-merge-into-3
     merge-into-requires
     same-length-3
     returns-3)

@@ -4,14 +4,8 @@ use Rattle.combine.proofs.Tests.{laws}
 use Rattle.combine.proofs.lower_dense.Statement.{statement}
 use Rattle.combine.proofs.lower_dense.Tie as tie
 
-add-get : tie.Need-add-get
-add-get c = search needs
-
 get-requires : tie.Need-get-requires
 get-requires c κs = search needs
-
-add-get-2 : tie.Need-add-get-2
-add-get-2 c = search needs
 
 get-requires-2 : tie.Need-get-requires-2
 get-requires-2 c κs = search needs
@@ -24,4 +18,4 @@ returns-2 c = search (needs, laws)
 
 pub lower-dense-spec : {M : Type 1} → statement M
 lower-dense-spec =
-    tie.close (tie.spec add-get get-requires add-get-2 get-requires-2 returns returns-2)
+    tie.close (tie.spec get-requires get-requires-2 returns returns-2)

@@ -6,35 +6,14 @@ use Rattle.combine.proofs.Merged.{ask-states, ask-then, states-stop, de
 use Rattle.combine.proofs.merge_deps.Statement.{statement}
 use Rattle.combine.proofs.merge_deps.Tie as tie
 
-add-get : tie.Need-add-get
-add-get c = search needs
-
 get-requires : tie.Need-get-requires
 get-requires c κs = search needs
 
 add-w : tie.Need-add-w
 add-w c = search needs
 
-add-merge-into : tie.Need-add-merge-into
-add-merge-into c = search needs
-
-add-merge-into-2 : tie.Need-add-merge-into-2
-add-merge-into-2 c = search needs
-
-add-merge-into-3 : tie.Need-add-merge-into-3
-add-merge-into-3 c = search needs
-
 merge-into-requires : tie.Need-merge-into-requires
 merge-into-requires c κs = let g = c .before in ask-states (g .before .before .pre) (ap (λ (n : ℕ). n + 1) (g .get .ensures .0))
-
-add-merge-into-4 : tie.Need-add-merge-into-4
-add-merge-into-4 c = search needs
-
-add-merge-into-5 : tie.Need-add-merge-into-5
-add-merge-into-5 c = search needs
-
-add-merge-into-6 : tie.Need-add-merge-into-6
-add-merge-into-6 c = search needs
 
 merge-into-requires-2 : tie.Need-merge-into-requires-2
 merge-into-requires-2 c κs =
@@ -66,16 +45,9 @@ pub merge-deps-spec : {M : Type 1} → statement M
 merge-deps-spec =
     tie.close
     (tie.spec
-    add-get
     get-requires
     add-w
-    add-merge-into
-    add-merge-into-2
-    add-merge-into-3
     merge-into-requires
-    add-merge-into-4
-    add-merge-into-5
-    add-merge-into-6
     merge-into-requires-2
     same-length
     returns

@@ -20,9 +20,6 @@ way-of-requires c κs = search needs
 enum-told : tie.Need-enum-told
 enum-told c = search needs
 
-add-get : tie.Need-add-get
-add-get c = search needs
-
 get-requires : tie.Need-get-requires
 get-requires c κs = search needs
 
@@ -39,9 +36,6 @@ made-requires c κs = search needs
 
 enum-told-2 : tie.Need-enum-told-2
 enum-told-2 c = search needs
-
-add-get-2 : tie.Need-add-get-2
-add-get-2 c = search needs
 
 get-requires-2 : tie.Need-get-requires-2
 get-requires-2 c κs = search needs
@@ -144,12 +138,10 @@ union-in-spec =
     returns
     way-of-requires
     enum-told
-    add-get
     get-requires
     complete-bare-requires
     made-requires
     enum-told-2
-    add-get-2
     get-requires-2
     complete-bare-requires-2
     made-requires-2

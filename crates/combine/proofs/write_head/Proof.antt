@@ -5,20 +5,11 @@ use Rattle.combine.proofs.Heads.{laws, dense-small}
 use Rattle.combine.proofs.write_head.Statement.{statement}
 use Rattle.combine.proofs.write_head.Tie as tie
 
-add-move-part : tie.Need-add-move-part
-add-move-part c = search needs
-
-add-move-part-2 : tie.Need-add-move-part-2
-add-move-part-2 c = search needs
-
 move-part-requires : tie.Need-move-part-requires
 move-part-requires c κs = search (needs, laws)
 
 store-requires : tie.Need-store-requires
 store-requires c κs = search needs
-
-add-store : tie.Need-add-store
-add-store c = search needs
 
 store-requires-2 : tie.Need-store-requires-2
 store-requires-2 c κs = (search needs, omega (arith, dense-small (c .before .before .before .before .before .before .before .pre)))
@@ -33,11 +24,8 @@ pub write-head-spec : {M : Type 1} → statement M
 write-head-spec =
     tie.close
     (tie.spec
-    add-move-part
-    add-move-part-2
     move-part-requires
     store-requires
-    add-store
     store-requires-2
     same-length
     returns)

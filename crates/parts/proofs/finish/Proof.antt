@@ -1,38 +1,34 @@
--- `finish`: by what the step says.
+-- `finish`: by what the step says; the part that it made is lent to `store`.
 use native.Mathlib.Omega.{arith}
 use borrow.Author.Needs.{needs}
+use Rattle.parts.specs.Parts.{Holds}
+use Rattle.parts.proofs.Lent.{lent-part-holds, lent-part-layout}
 use Rattle.parts.proofs.Ending.{finished-done, finished-refused}
 use Rattle.parts.proofs.finish.Statement.{statement}
 use Rattle.parts.proofs.finish.Tie as tie
 
-enum-told : tie.Need-enum-told
-enum-told c = search needs
+-- the step made a layout
+holds : (d : tie.After-enum-told) → Holds (d .before .before .args .at) (d .before .before .args .work .now)
+holds d = d .before .before .pre .1 (d .enum-told .given .1)
+
+add-end : tie.Need-add-end
+add-end c = omega (arith, holds c .inside)
+
+mul-store : tie.Need-mul-store
+mul-store c = omega (arith, holds c .inside)
+
+part-store-end : tie.Need-part-store-end
+part-store-end c = holds (c .before) .inside
 
 store-requires : tie.Need-store-requires
-store-requires c κs = (c .before .before .before .before .pre .1 (c .before .before .enum-told .given .1), omega arith)
-
-clear-requires : tie.Need-clear-requires
-clear-requires c κs = search needs
-
-enum-known-step : tie.Need-enum-known-step
-enum-known-step c = search needs
-
-refuse-requires : tie.Need-refuse-requires
-refuse-requires c κs = search needs
-
-same-length : tie.Need-same-length
-same-length c = search needs
-
-same-length-2 : tie.Need-same-length-2
-same-length-2 c = search needs
+store-requires c κs = (lent-part-holds (holds (c .before .before .before)), omega arith)
 
 returns : tie.Need-returns
 returns c =
-    let stores = c .before .before .before .before in
-    finished-done (c .before .clear .ensures) (stores .before .before .before .enum-told .given .1) (stores .store .ensures)
-
-same-length-3 : tie.Need-same-length-3
-same-length-3 c = search needs
+    let cleared = c .before in
+    let stored = cleared .before .before .before in
+    let d = stored .before .before .before .before in
+    finished-done (cleared .clear .ensures) (d .enum-told .given .1) (lent-part-layout (holds d)) (stored .store .ensures)
 
 returns-2 : tie.Need-returns-2
 returns-2 c = finished-refused (c .before .refuse .ensures .1) (c .before .before .before .before .step .given .1) (c .before .refuse .ensures .0)
@@ -41,13 +37,18 @@ pub finish-spec : {M : Type 1} → statement M
 finish-spec =
     tie.close
     (tie.spec
-    enum-told
+    (λ c. search needs)
+    add-end
+    mul-store
+    (λ c. search needs)
+    (λ c. search needs)
+    part-store-end
     store-requires
-    clear-requires
-    enum-known-step
-    refuse-requires
-    same-length
-    same-length-2
+    (λ c κs. search needs)
+    (λ c. search needs)
+    (λ c κs. search needs)
+    (λ c. search needs)
+    (λ c. search needs)
     returns
-    same-length-3
+    (λ c. search needs)
     returns-2)

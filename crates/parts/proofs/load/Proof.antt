@@ -13,24 +13,15 @@ load-part-requires c κs =
     let b = places (c .before .before .pre .0) in
     (omega arith, omega arith, omega arith)
 
-add-load-part : tie.Need-add-load-part
-add-load-part c = search needs
-
 load-part-requires-2 : tie.Need-load-part-requires-2
 load-part-requires-2 c κs =
     let b = places (c .before .before .before .before .before .pre .0) in
     (omega arith, omega arith, omega arith)
 
-add-load-part-2 : tie.Need-add-load-part-2
-add-load-part-2 c = search needs
-
 load-part-requires-3 : tie.Need-load-part-requires-3
 load-part-requires-3 c κs =
     let b = places (c .before .before .before .before .before .before .before .before .pre .0) in
     (omega arith, omega arith, omega arith)
-
-add-load-part-3 : tie.Need-add-load-part-3
-add-load-part-3 c = search needs
 
 load-part-requires-4 : tie.Need-load-part-requires-4
 load-part-requires-4 c κs =
@@ -47,7 +38,7 @@ returns c =
     let rows = states .before .before .before in
     let head = rows .before .before .before in
     let start = head .before .before .before in
-    is-loaded (start .pre .0) (start .args .at) _ (start .pre .1)
+    is-loaded (start .pre .0) _ (start .pre .1)
     (head .load-part .ensures) (rows .load-part2 .ensures) (states .load-part3 .ensures) (inputs .load-part4 .ensures)
 
 pub load-spec : {M : Type 1} → statement M
@@ -56,11 +47,8 @@ load-spec =
     (tie.spec
     add-rows
     load-part-requires
-    add-load-part
     load-part-requires-2
-    add-load-part-2
     load-part-requires-3
-    add-load-part-3
     load-part-requires-4
     same-length
     returns)

@@ -2,7 +2,7 @@
 use Prim.Native.Nat.{_≤_}
 use native.Mathlib.Omega.{arith}
 use borrow.Author.Needs.{needs}
-use lib.ListN.{length-take, length-drop}
+use lib.ListN.{length-take}
 use Rattle.parts.proofs.Encoding.{rank-few, dense-within, rows-there, states-there, inputs-there, layout-stored}
 use Rattle.parts.proofs.store.Statement.{statement}
 use Rattle.parts.proofs.store.Tie as tie
@@ -11,81 +11,31 @@ use Rattle.parts.proofs.store.Tie as tie
 few : (g : tie.After-get2) → g .get2 .result ≤ 4
 few g = rank-few (g .before .before .pre .0) (g .get2 .ensures .0) (g .before .get .ensures .0)
 
-add-get : tie.Need-add-get
-add-get c = search needs
-
-get-requires : tie.Need-get-requires
-get-requires c κs = search needs
-
-add-get-2 : tie.Need-add-get-2
-add-get-2 c = search needs
-
-get-requires-2 : tie.Need-get-requires-2
-get-requires-2 c κs = search needs
-
-add-end : tie.Need-add-end
-add-end c = search needs
-
-add-end-2 : tie.Need-add-end-2
-add-end-2 c = search needs
-
-mul-copy : tie.Need-mul-copy
-mul-copy c = search needs
-
-sub-copy : tie.Need-sub-copy
-sub-copy c = search needs
-
-part-copy-start : tie.Need-part-copy-start
-part-copy-start c = search needs
-
-part-copy-end : tie.Need-part-copy-end
-part-copy-end c = omega (arith, few c)
+slice-aggregate-copy : tie.Need-slice-aggregate-copy
+slice-aggregate-copy c = simp length-take (omega (arith, few (c .before), c .before .before .before .pre .0 .inside))
 
 copy-requires : tie.Need-copy-requires
-copy-requires c κs =
-    let g = c .before .before in
-    simp (length-take, length-drop) (omega (arith, few g))
-
-add-store-table : tie.Need-add-store-table
-add-store-table c = search needs
+copy-requires c κs = simp length-take (omega (arith, few (c .before .before)))
 
 sub-store-table : tie.Need-sub-store-table
 sub-store-table c =
     let g = c .before .before .before .before in
     dense-within (g .before .before .pre .0) (g .get2 .ensures .0) (g .before .get .ensures .0)
 
-add-store-table-2 : tie.Need-add-store-table-2
-add-store-table-2 c = search needs
-
 store-table-requires : tie.Need-store-table-requires
 store-table-requires c κs =
     let g = c .before .before .before .before .before in
     (rows-there (g .before .before .pre .0) (g .get2 .ensures .0) (g .before .get .ensures .0), omega (arith, few g))
-
-add-store-table-3 : tie.Need-add-store-table-3
-add-store-table-3 c = search needs
-
-add-store-table-4 : tie.Need-add-store-table-4
-add-store-table-4 c = search needs
 
 store-table-requires-2 : tie.Need-store-table-requires-2
 store-table-requires-2 c κs =
     let g = c .before .before .before .before .before .before .before .before in
     (states-there (g .before .before .pre .0) (g .get2 .ensures .0) (g .before .get .ensures .0), omega (arith, few g))
 
-add-store-table-5 : tie.Need-add-store-table-5
-add-store-table-5 c = search needs
-
-add-store-table-6 : tie.Need-add-store-table-6
-add-store-table-6 c = search needs
-
 store-table-requires-3 : tie.Need-store-table-requires-3
 store-table-requires-3 c κs =
     let g = c .before .before .before .before .before .before .before .before .before .before .before in
     (inputs-there (g .before .before .pre .0) (g .get2 .ensures .0) (g .before .get .ensures .0), omega (arith, few g))
-
-same-length : tie.Need-same-length
-same-length c = search needs
 
 returns : tie.Need-returns
 returns c =
@@ -101,26 +51,16 @@ pub store-spec : {M : Type 1} → statement M
 store-spec =
     tie.close
     (tie.spec
-    add-get
-    get-requires
-    add-get-2
-    get-requires-2
-    add-end
-    add-end-2
-    mul-copy
-    sub-copy
-    part-copy-start
-    part-copy-end
+    (λ c κs. search needs)
+    (λ c κs. search needs)
+    (λ c. search needs)
+    slice-aggregate-copy
     copy-requires
-    add-store-table
     sub-store-table
-    add-store-table-2
     store-table-requires
-    add-store-table-3
-    add-store-table-4
+    (λ c. search needs)
     store-table-requires-2
-    add-store-table-5
-    add-store-table-6
+    (λ c. search needs)
     store-table-requires-3
-    same-length
+    (λ c. search needs)
     returns)

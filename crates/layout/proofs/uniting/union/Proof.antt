@@ -1,49 +1,52 @@
--- `union`: what was judged, both records loaded, the union made, and the end of the call.
+-- `union`: what was judged, both records loaded and the union made in a window that is lent twice, and the end of the call.
 use native.Mathlib.Omega.{arith}
 use borrow.Author.Needs.{needs}
-use Rattle.layout.proofs.Loaded.{pair-early, pair-late, pair-heads, both-loaded}
-use Rattle.layout.proofs.Unions.{union-early, union-late, union-asked, union-done}
+use lib.ListN.{length, length-take}
+use Rattle.layout.specs.Pairs.{BothRead}
+use Rattle.layout.proofs.Loaded.{pair-early, pair-late, pair-heads}
+use Rattle.layout.proofs.Unions.{union-early, union-late, union-asked, union-says, union-done}
 use Rattle.layout.proofs.uniting.union.Statement.{statement}
 use Rattle.layout.proofs.uniting.union.Tie as tie
-
-judge-pair-requires : tie.Need-judge-pair-requires
-judge-pair-requires c κs = search needs
 
 refuse-requires : tie.Need-refuse-requires
 refuse-requires c κs =
     let why = c .before .before in
     pair-late _ _ _ _ (why .before .before .judge-pair .ensures) (why .why2 .given .1) .work-long
 
-load-requires : tie.Need-load-requires
-load-requires c κs =
-    let first = c .before .before in
-    let read = pair-heads _ _ _ _ (first .before .before .judge-pair .ensures) (first .first .given .1) in
-    (read .first, omega (arith, read .work-long))
+-- both records were read
+read : (f : tie.After-first) →
+    let a = f .before .before .before .args in
+    BothRead (a .left .now) (a .right .now) (length (a .result .now)) (length (a .work .now)) (f .first .given .0 .0) (f .first .given .0 .1 .0)
+read f = pair-heads _ _ _ _ (f .before .before .judge-pair .ensures) (f .first .given .1)
 
-load-requires-2 : tie.Need-load-requires-2
-load-requires-2 c κs =
-    let loaded = c .before .before in
-    let first = loaded .before .before .before in
-    let read = pair-heads _ _ _ _ (first .before .before .judge-pair .ensures) (first .first .given .1) in
-    (read .second, omega (arith, read .work-long, loaded .load .ensures .only .size))
+part-load-pair-end : tie.Need-part-load-pair-end
+part-load-pair-end c = omega (arith, read (c .before) .work-long)
+
+load-pair-requires : tie.Need-load-pair-requires
+load-pair-requires c κs =
+    let j = read (c .before .before) in
+    ((j .first, j .second), simp length-take (omega (arith, j .work-long)))
+
+part-union-in-end : tie.Need-part-union-in-end
+part-union-in-end c = omega (arith, c .work2 .given .1, read (c .before .before .before .before) .work-long)
 
 union-in-requires : tie.Need-union-in-requires
 union-in-requires c κs =
-    let loaded2 = c .before .before in
-    let loaded = loaded2 .before .before .before in
-    let first = loaded .before .before .before in
-    let read = pair-heads _ _ _ _ (first .before .before .judge-pair .ensures) (first .first .given .1) in
-    union-asked (read .work-long) (both-loaded (loaded .load .ensures) (loaded2 .load2 .ensures))
+    let w = c .before in
+    let first = w .before .before .before .before in
+    let a = first .before .before .before .args in
+    union-asked _ _ (a .result .now) (a .work .now) (read first) (w .before .load-pair .ensures) (w .work2 .given .0)
 
 finish-requires : tie.Need-finish-requires
 finish-requires c κs =
-    let united = c .before .before .before in
-    let loaded2 = united .before .before .before in
-    let loaded = loaded2 .before .before .before in
-    let first = loaded .before .before .before in
-    let read = pair-heads _ _ _ _ (first .before .before .judge-pair .ensures) (first .first .given .1) in
-    let both = both-loaded (loaded .load .ensures) (loaded2 .load2 .ensures) in
-    ((omega (arith, read .work-long, both .only .size, united .union-in .ensures .only .size), read .result-long), united .union-in .ensures .holds)
+    let u = c .before .before in
+    let w = u .before .before .before in
+    let first = w .before .before .before .before in
+    let a = first .before .before .before .args in
+    let j = read first in (
+      (omega (arith, u .work3 .given .1, w .work2 .given .1, j .work-long), j .result-long),
+      union-says _ _ (a .result .now) (a .work .now) j (w .before .load-pair .ensures) (w .work2 .given .0) (u .before .union-in .ensures) .holds,
+    )
 
 returns : tie.Need-returns
 returns c =
@@ -58,26 +61,27 @@ returns-2 c =
 returns-3 : tie.Need-returns-3
 returns-3 c =
     let finished = c .before .before in
-    let united = finished .before .before .before .before in
-    let loaded2 = united .before .before .before in
-    let loaded = loaded2 .before .before .before in
-    let first = loaded .before .before .before in
-    union-done _ _ _ _ (pair-heads _ _ _ _ (first .before .before .judge-pair .ensures) (first .first .given .1))
-    (both-loaded (loaded .load .ensures) (loaded2 .load2 .ensures))
-    (united .union-in .ensures)
+    let u = finished .before .before .before in
+    let w = u .before .before .before in
+    union-done _ _ _ _ (read (w .before .before .before .before)) (w .before .load-pair .ensures) (w .work2 .given .0) (u .before .union-in .ensures)
     (finished .finish .ensures)
 
 pub union-spec : {M : Type 1} → statement M
 union-spec =
     tie.close
     (tie.spec
-    judge-pair-requires
+    (λ c κs. search needs)
     (λ c. search needs)
     (λ c. search needs)
     refuse-requires
     (λ c. search needs)
-    load-requires
-    load-requires-2
+    (λ c. search needs)
+    (λ c. search needs)
+    part-load-pair-end
+    load-pair-requires
+    (λ c. search needs)
+    (λ c. search needs)
+    part-union-in-end
     union-in-requires
     finish-requires
     returns
