@@ -16,9 +16,9 @@ use Rattle.tables.specs.Rows.{rowAt}
 use Rattle.tables.specs.Tables.{Only}
 use Rattle.tables.proofs.Rows.{row-number, row-put}
 use Rattle.tables.proofs.Only.{only-then, only-wider, only-put, only-set, view-outside, row-outside}
-use Rattle.parts.specs.Parts.{left, target, rankAt}
+use Rattle.parts.specs.Parts.{rowsFrom, left, target, rankAt}
 use Rattle.parts.proofs.Holds.{rank-most}
-use Rattle.combine.specs.Uniting.{HeadAsked, HeadMade}
+use Rattle.combine.specs.Window.{HeadAsked, HeadMade}
 
 -- a number that was stored
 pub stored-number : (at n : ℕ) (s : List ℤ) → at < length s → getD (view (set s at (pos n))) at 0 ≡ n
@@ -39,10 +39,10 @@ module _ {kind dense : ℕ} {s : List ℤ} (q : HeadAsked kind dense s) where
     copy-length : length (part (left + 2) 5 s) ≡ 5
     copy-length = length-part (left + 2) 5 s (omega (arith, ask-move .0))
 
-    copy-only : Only target (target + 7) s t
+    copy-only : Only target (target + rowsFrom) s t
     copy-only =
         rw copied
-        (only-wider (only-put (target + 2) (part (left + 2) 5 s) s (rw copy-length (ask-move .1))) target (target + 7) (omega arith) (rw copy-length (omega arith)))
+        (only-wider (only-put (target + 2) (part (left + 2) 5 s) s (rw copy-length (ask-move .1))) target (target + rowsFrom) (omega arith) (rw copy-length (omega arith)))
 
     kind-only : Only target (target + 1) t u
     kind-only = rw kinded (only-set target (pos kind) t)
@@ -53,10 +53,10 @@ module _ {kind dense : ℕ} {s : List ℤ} (q : HeadAsked kind dense s) where
     size-t : length t ≡ length s
     size-t = copy-only .size
 
-    head-only : Only target (target + 7) s v
+    head-only : Only target (target + rowsFrom) s v
     head-only =
         only-then copy-only
-        (only-then (only-wider kind-only target (target + 7) (omega arith) (omega arith)) (only-wider dense-only target (target + 7) (omega arith) (omega arith)))
+        (only-then (only-wider kind-only target (target + rowsFrom) (omega arith) (omega arith)) (only-wider dense-only target (target + rowsFrom) (omega arith) (omega arith)))
 
     -- rank and extents
     numbers : rowAt (target + 2) 5 v ≡ rowAt (left + 2) 5 s

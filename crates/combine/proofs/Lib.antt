@@ -5,5 +5,6 @@ pub mod Rooms
 pub mod Heads
 pub mod Merged
 pub mod Completing
+pub mod Combining
 pub mod Joining
 pub mod United

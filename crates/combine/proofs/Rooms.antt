@@ -9,7 +9,7 @@ use Rattle.tables.specs.Tables.{Only}
 use Rattle.tables.proofs.Only.{only-wider}
 use Rattle.parts.specs.Parts.{windowSize, left, right, target, spare, rankAt, layoutAt, Window}
 use Rattle.parts.proofs.Holds.{rank-outside, layout-outside, holds-outside}
-use Rattle.combine.specs.Uniting.{DepsAsked}
+use Rattle.combine.specs.Window.{DepsAsked}
 
 -- what is written in the target is written behind both
 pub in-target : {s t : List ℤ} → Only target spare s t → Only target windowSize s t

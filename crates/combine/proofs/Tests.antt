@@ -17,7 +17,7 @@ use Rattle.rules.proofs.Same.{same-true}
 use Rattle.rules.proofs.Listed.{lists-between, lists-zero, lists-same}
 use Rattle.cells.specs.View.{view}
 use Rattle.tables.proofs.Tables.{table-length}
-use Rattle.parts.specs.Parts.{left, right, kindAt, denseAt, rankAt, layoutAt, Holds, Window}
+use Rattle.parts.specs.Parts.{extentsFrom, rowsFrom, left, right, kindAt, denseAt, rankAt, layoutAt, Holds, Window}
 use Rattle.parts.proofs.Holds.{rank-most, rank-is}
 use Rattle.lowering.specs.Lowering.{Axes, lastAxes}
 
@@ -44,7 +44,7 @@ module _ {s : List ℤ} (h : Window s) where
   pub extents-inside : {n : ℕ} → n ≡ rankAt left s → (left + 3 + n ≤ length s) × (right + 3 + n ≤ length s)
   extents-inside e = let m = rank-most (h .first) in (omega (arith, h .first .inside), omega (arith, h .second .inside))
 
-  pub shapes-tell : {n : ℕ} {r : Bool} → n ≡ rankAt left s → rankAt left s ≡ rankAt right s → r ≡ same (part (left + 3) n (view s)) (part (right + 3) n (view s)) →
+  pub shapes-tell : {n : ℕ} {r : Bool} → n ≡ rankAt left s → rankAt left s ≡ rankAt right s → r ≡ same (part (left + extentsFrom) n (view s)) (part (right + extentsFrom) n (view s)) →
       r ≡ same (layoutAt left s .shape) (layoutAt right s .shape)
   unfolding layoutAt
   shapes-tell e k t = rw (← k, ← e) t
@@ -99,7 +99,7 @@ module _ (d : ℕ) {at : ℕ} {s : List ℤ} (k : Holds at s) where
     unfolding layoutAt
     lists-at-same h = sym (lists-same (layoutAt at s) (omega arith))
 
-    module _ (g : d ≡ 0 → ⊥) (h : d < dense) {count : ℕ} (c : count ≡ getD (view s) (at + 7) 0) where
+    module _ (g : d ≡ 0 → ⊥) (h : d < dense) {count : ℕ} (c : count ≡ getD (view s) (at + rowsFrom) 0) where
       tell : listsRow (layoutAt at s) d ≡ ltb 0 count && ltb 0 (product (drop (rank (layoutAt at s) - (dense - d)) (layoutAt at s .shape)))
       unfolding layoutAt
       tell = lists-between (layoutAt at s) (omega arith) (omega arith) ∙ rw (table-length, c, e)
@@ -108,7 +108,7 @@ module _ (d : ℕ) {at : ℕ} {s : List ℤ} (k : Holds at s) where
       lists-no-rows z = rw (tell, z)
 
       module _ {n : ℕ} (r : n ≡ rankAt at s) where
-        pub removed-axes : Axes (at + 3) (n - (dense - d)) n s
+        pub removed-axes : Axes (at + extentsFrom) (n - (dense - d)) n s
         unfolding layoutAt
         removed-axes =
             let m = rank-most k in
@@ -119,7 +119,7 @@ module _ (d : ℕ) {at : ℕ} {s : List ℤ} (k : Holds at s) where
               small = rw r (k .sound .sizes .product-most);
             }
 
-        pub lists-some : (count ≡ 0 → ⊥) → {size : ℕ} → size ≡ product (lastAxes (at + 3) (n - (dense - d)) n s) → ltb 0 size ≡ listsRow (layoutAt at s) d
+        pub lists-some : (count ≡ 0 → ⊥) → {size : ℕ} → size ≡ product (lastAxes (at + extentsFrom) (n - (dense - d)) n s) → ltb 0 size ≡ listsRow (layoutAt at s) d
         unfolding layoutAt
         lists-some z p = rw (tell, rank-is k, ← r, lt-ltb 0 count (omega arith), p)
 

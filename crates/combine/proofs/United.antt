@@ -1,40 +1,85 @@
--- `union_in`: the union by its way. Assumes nothing.
-use mathlib.Core.Path.{_≡_, refl, sym, ap, _∙_}
-use mathlib.Core.Bool.{Bool, true, false}
+-- `union_in` and `unite_rows`: the union by its way. Assumes nothing.
+use mathlib.Core.Path.{_≡_, refl, sym, _∙_}
+use mathlib.Core.Bool.{Bool, true, false, _||_}
 use mathlib.Core.List.{List, []}
-use Prim.Native.Nat.{ℕ, _+_, _≤_}
-use native.Mathlib.Omega.{arith}
+use Prim.Native.Nat.{ℕ}
 use lib.IntN.{ℤ}
-use lib.ListN.{length}
 use Rattle.rules.specs.declared.Step.{Step}
-use Rattle.rules.specs.declared.Step.the-variants.{Done, Refused}
-use Rattle.rules.specs.declared.Refusal.{Refusal}
-use Rattle.rules.specs.declared.Refusal.the-variants.{ShapesDisagree, DenseAxes, MadeUnsound, MadeTooLarge}
+use Rattle.rules.specs.declared.Step.the-variants.{Refused}
+use Rattle.rules.specs.declared.Refusal.the-variants.{ShapesDisagree, DenseAxes, MadeUnsound}
 use Rattle.rules.specs.Lists.{same}
-use Rattle.rules.specs.Refusals.{given, refused, numberOf}
+use Rattle.rules.specs.Refusals.{refused, numberOf}
 use Rattle.rules.specs.Layout.{Layout}
 use Rattle.rules.specs.CountsAndForms.{toDense}
+use Rattle.rules.specs.Removal.{lowerD, listsRow, barsExpansion}
 use Rattle.rules.specs.Union.{withMerged, union}
-use Rattle.rules.proofs.Same.{same-true}
-use Rattle.rules.proofs.Soundness.{diagonal-rows}
+use Rattle.rules.proofs.Soundness.{Sound, diagonal-rows}
 use Rattle.rules.proofs.Made.{fewOr}
-use Rattle.rules.proofs.Unions.{union-shapes, union-sound}
+use Rattle.rules.proofs.Unions.{union-shapes, union-sound, union-dense, union-diagonals, union-bars, union-lists, union-rows}
 use Rattle.rules.proofs.Low.{union-low}
-use Rattle.tables.proofs.Only.{only-same}
-use Rattle.parts.specs.Parts.{windowSize, left, right, target, denseAt, rankAt, layoutAt, Window}
-use Rattle.parts.proofs.Holds.{rank-is, dense-most}
-use Rattle.combine.specs.declared.Way.{Way}
-use Rattle.combine.specs.declared.Way.the-variants.{Dense, Diagonal, Barred, Listing, Rows}
-use Rattle.combine.specs.Uniting.{wayOf, BareAsked, RowsAsked, completed, unitedRows, madeStep, Made, UnionMade}
-use Rattle.combine.proofs.Ways.{way-told, united-dense, united-diagonal, united-barred, united-listing, united-rows, diagonal-first}
+use Rattle.parts.specs.Parts.{left, right, denseAt, rankAt, layoutAt, Window}
+use Rattle.parts.proofs.Holds.{rank-is}
+use Rattle.combine.specs.declared.window.Way.{Way}
+use Rattle.combine.specs.declared.window.Way.the-variants.{Dense, Diagonals, Rows}
+use Rattle.combine.specs.Window.{wayOf, RowsAsked, mergedStates, mergedInputs, shaped, madeStep, Made, Combined}
+use Rattle.combine.specs.Uniting.{JoinAsked, unitedRows}
+use Rattle.combine.proofs.Ways.{Told, told-dense, told-diagonals, told-rows, way-told, diagonal-first}
+use Rattle.combine.proofs.Combining.{Makes, combine-refused, combine-made, shapes-same}
 
--- a layout that is too large
-pub too-large : {few : Bool} → few ≡ false → Refused MadeTooLarge ≡ madeStep few
-too-large e = rw e
+-- ---- the union, by its way
 
--- a refusal is no answer
-never-done : {x : Refusal} → Refused x ≡ Done → ⊥
-never-done e = let z : _≡_ {A = ℕ} 0 1 = cc in omega arith
+module _ {a b : Layout} (p : Sound a) (q : Sound b) (e : same (a .shape) (b .shape) ≡ true) where
+  united-dense : Told a b Dense → union a b ≡ fewOr (withMerged a b (toDense a))
+  united-dense (told-dense f) = union-dense p q e f
+
+  united-diagonals : Told a b Diagonals → union a b ≡ fewOr (withMerged a b a)
+  united-diagonals (told-diagonals f g) = union-diagonals p q e f g
+
+  united-barred : Told a b Rows → (barsExpansion a || barsExpansion b) ≡ true → union a b ≡ refused 11
+  united-barred (told-rows f g) h = union-bars p q e f g h
+
+  united-listing : Told a b Rows → (barsExpansion a || barsExpansion b) ≡ false → (listsRow a (lowerD a b) || listsRow b (lowerD a b)) ≡ true → union a b ≡ refused 12
+  united-listing (told-rows f g) h i = union-lists p q e f g h i
+
+  united-rows : Told a b Rows → (barsExpansion a || barsExpansion b) ≡ false → (listsRow a (lowerD a b) || listsRow b (lowerD a b)) ≡ false → union a b ≡ fewOr (unitedRows a b)
+  united-rows (told-rows f g) h i = union-rows p q e f g h i
+
+makes-union : Makes union
+makes-union = record { sound = union-sound; low = union-low }
+
+-- ---- `unite_rows`
+
+module _ {s : List ℤ} (q : RowsAsked s) where
+  abbrev a : Layout
+  a = layoutAt left s
+
+  abbrev b : Layout
+  b = layoutAt right s
+
+  rows-told : Told a b Rows
+  rows-told = way-told a b (sym (q .way)) refl
+
+  module _ {bars : Bool} (bars-is : bars ≡ (barsExpansion a || barsExpansion b)) where
+    pub barred : bars ≡ true → Combined union s s (Refused DenseAxes)
+    barred f = combine-refused (q .window) DenseAxes (unfold numberOf in united-barred (q .window .first .sound) (q .window .second .sound) (q .shapes) rows-told (sym bars-is ∙ f))
+
+    module _ (bars-not : bars ≡ false) {d : ℕ} (d-is : d ≡ lowerD a b) {lists : Bool} (lists-is : lists ≡ (listsRow a d || listsRow b d)) where
+      pub listing : lists ≡ true → Combined union s s (Refused MadeUnsound)
+      listing f =
+          combine-refused (q .window) MadeUnsound
+          (unfold numberOf in united-listing (q .window .first .sound) (q .window .second .sound) (q .shapes) rows-told (sym bars-is ∙ bars-not) (rw (← d-is) (sym lists-is ∙ f)))
+
+      module _ (lists-not : lists ≡ false) where
+        pub ask-join : JoinAsked d s
+        ask-join = record { asked = q; lower = d-is; expand = sym bars-is ∙ bars-not; list-none = sym lists-is ∙ lists-not }
+
+        pub rows-made : {t : List ℤ} {few : Bool} {step : Step} → Made (unitedRows a b) s t few → step ≡ madeStep few → Combined union s t step
+        rows-made m p =
+            rw p
+            (combine-made (q .window) makes-union
+            (united-rows (q .window .first .sound) (q .window .second .sound) (q .shapes) rows-told (sym bars-is ∙ bars-not) (rw (← d-is) (sym lists-is ∙ lists-not))) m)
+
+-- ---- `union_in`
 
 module _ {s : List ℤ} (q : Window s) where
   abbrev x : Layout
@@ -43,77 +88,28 @@ module _ {s : List ℤ} (q : Window s) where
   abbrev y : Layout
   y = layoutAt right s
 
-  -- ---- the ends
-
-  -- nothing is written
-  refuse : (r : Refusal) → union x y ≡ refused (numberOf r) → UnionMade s s (Refused r)
-  refuse r e = record { says = record { is = sym e; holds = λ d. absurd (never-done d) }; only = only-same target windowSize s }
-
-  -- a layout was made, or is too large
-  module _ {l : Layout} {t : List ℤ} (e : union x y ≡ fewOr l) where
-    finish : {few : Bool} → Made l s t few → UnionMade s t (madeStep few)
-    finish {few = true} m =
-        let is : union x y ≡ given (layoutAt target t) = e ∙ rw (← m .verdict, m .layout refl) in
-        record {
-          says = record {
-            is = sym is;
-            holds = λ _. record { inside = omega (arith, q .room, m .only .size); sound = union-sound x y is; low = union-low (q .first .low) (q .second .low) is };
-          };
-          only = m .only;
-        }
-    finish {few = false} m = record { says = record { is = sym (e ∙ (unfold numberOf in rw (← m .verdict))); holds = λ d. absurd (never-done d) }; only = m .only }
-
-  -- ---- shapes
-
-  pub shapes-stop : {r : Bool} → r ≡ same (x .shape) (y .shape) → r ≡ false → UnionMade s s (Refused ShapesDisagree)
-  shapes-stop e f = refuse ShapesDisagree (unfold numberOf in union-shapes x y (sym e ∙ f))
+  pub shapes-stop : {r : Bool} → r ≡ same (x .shape) (y .shape) → r ≡ false → Combined union s s (Refused ShapesDisagree)
+  shapes-stop e f = combine-refused q ShapesDisagree (unfold numberOf in union-shapes x y (sym e ∙ f))
 
   module _ {r : Bool} (r-is : r ≡ same (x .shape) (y .shape)) (agree : r ≡ true) {w : Way} (w-is : w ≡ wayOf x y) where
     shapes : same (x .shape) (y .shape) ≡ true
-    shapes = sym r-is ∙ agree
+    shapes = shapes-same q r-is agree
 
-    ranks : rankAt left s ≡ rankAt right s
-    ranks = sym (rank-is (q .first)) ∙ ap length (same-true shapes) ∙ rank-is (q .second)
-
-    -- ---- refused by its way
-
-    pub barred : w ≡ Barred → UnionMade s s (Refused DenseAxes)
-    barred e = refuse DenseAxes (unfold numberOf in united-barred (q .first .sound) (q .second .sound) shapes (way-told x y w-is e))
-
-    pub listing : w ≡ Listing → UnionMade s s (Refused MadeUnsound)
-    listing e = refuse MadeUnsound (unfold numberOf in united-listing (q .first .sound) (q .second .sound) shapes (way-told x y w-is e))
-
-    -- ---- no rows
-
-    ask-bare : {kind dense : ℕ} → kind ≤ 2 → dense ≤ rankAt left s → BareAsked kind dense s
-    ask-bare h k = record { deps = record { window = q; ranks = ranks }; head = record { window = q; kind-most = h; dense-most = k } }
-
-    pub ask-dense : {n : ℕ} → n ≡ rankAt left s → BareAsked 0 n s
-    ask-dense e = ask-bare (omega arith) (omega arith)
-
-    pub dense-made : {n : ℕ} {t : List ℤ} {few : Bool} {step : Step} → w ≡ Dense → n ≡ rankAt left s → Made (completed 0 n [] s) s t few → step ≡ madeStep few →
-        UnionMade s t step
+    pub dense-made : {n : ℕ} {t : List ℤ} {few : Bool} {step : Step} → w ≡ Dense → n ≡ rankAt left s →
+        Made (shaped 0 n [] (mergedStates s) (mergedInputs s) x) s t few → step ≡ madeStep few → Combined union s t step
     unfolding toDense
     dense-made {n} e k m p =
-        let is : completed 0 n [] s ≡ withMerged x y (toDense x) = rw (k, ← rank-is (q .first)) in
-        rw p (finish (united-dense (q .first .sound) (q .second .sound) shapes (way-told x y w-is e)) (rw is at m))
+        let is : shaped 0 n [] (mergedStates s) (mergedInputs s) x ≡ withMerged x y (toDense x) = rw (k, ← rank-is (q .first)) in
+        rw p (combine-made q makes-union (united-dense (q .first .sound) (q .second .sound) shapes (way-told x y w-is e)) (rw is at m))
 
-    pub ask-diagonal : {d : ℕ} → d ≡ denseAt left s → BareAsked 1 d s
-    ask-diagonal e = let l = dense-most (q .first) in ask-bare (omega arith) (omega arith)
-
-    pub diagonal-made : {d : ℕ} {t : List ℤ} {few : Bool} {step : Step} → w ≡ Diagonal → d ≡ denseAt left s → Made (completed 1 d [] s) s t few →
-        step ≡ madeStep few → UnionMade s t step
-    diagonal-made {d} e k m p =
+    pub diagonals-made : {d : ℕ} {t : List ℤ} {few : Bool} {step : Step} → w ≡ Diagonals → d ≡ denseAt left s →
+        Made (shaped 1 d [] (mergedStates s) (mergedInputs s) x) s t few → step ≡ madeStep few → Combined union s t step
+    diagonals-made {d} e k m p =
         let told = way-told x y w-is e in
         let kind = diagonal-first told in
         let dense : d ≡ x .dense = unfold layoutAt in k in
-        let is : completed 1 d [] s ≡ withMerged x y x = rw (kind, dense, diagonal-rows (q .first .sound .form) kind) in
-        rw p (finish (united-diagonal (q .first .sound) (q .second .sound) shapes told) (rw is at m))
-
-    -- ---- by rows
+        let is : shaped 1 d [] (mergedStates s) (mergedInputs s) x ≡ withMerged x y x = rw (kind, dense, diagonal-rows (q .first .sound .form) kind) in
+        rw p (combine-made q makes-union (united-diagonals (q .first .sound) (q .second .sound) shapes told) (rw is at m))
 
     pub ask-rows : w ≡ Rows → RowsAsked s
     ask-rows e = record { window = q; shapes = shapes; way = sym w-is ∙ e }
-
-    pub rows-made : {t : List ℤ} {few : Bool} {step : Step} → w ≡ Rows → Made (unitedRows x y) s t few → step ≡ madeStep few → UnionMade s t step
-    rows-made e m p = rw p (finish (united-rows (q .first .sound) (q .second .sound) shapes (way-told x y w-is e)) m)

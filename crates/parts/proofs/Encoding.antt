@@ -13,7 +13,7 @@ use Rattle.rules.proofs.Extents.{extent-limited}
 use Rattle.cells.specs.View.{view, Low}
 use Rattle.cells.proofs.View.{view-length}
 use Rattle.tables.specs.Tables.{tableAt, Fits}
-use Rattle.parts.specs.Parts.{kindAt, denseAt, rankAt, widthAt, layoutAt, Holds}
+use Rattle.parts.specs.Parts.{partSize, statesFrom, inputsFrom, kindAt, denseAt, rankAt, widthAt, layoutAt, Holds}
 use Rattle.parts.specs.Answers.{numbersOf, TableStored, Stored}
 use Rattle.parts.proofs.Holds.{kind-most, rank-most, dense-most, shape-length, rows-fit, states-ready, inputs-ready}
 use Rattle.parts.proofs.Packing.{low-cons, part-cons, part-is}
@@ -31,10 +31,10 @@ abbrev rowNumbers : List ℤ → List ℤ
 rowNumbers s = numbersOf (tableAt 7 (widthAt 0 s) s)
 
 abbrev stateNumbers : List ℤ → List ℤ
-stateNumbers s = numbersOf (tableAt 520 (rankAt 0 s + 1) s)
+stateNumbers s = numbersOf (tableAt statesFrom (rankAt 0 s + 1) s)
 
 abbrev inputNumbers : List ℤ → List ℤ
-inputNumbers s = numbersOf (tableAt 1161 (rankAt 0 s + 1) s)
+inputNumbers s = numbersOf (tableAt inputsFrom (rankAt 0 s + 1) s)
 
 -- four lists of numbers, one behind the other
 four-lists : (a b c d : List ℕ) → ((map pos a ++ map pos b) ++ map pos c) ++ map pos d ≡ map pos (((a ++ b) ++ c) ++ d)
@@ -44,7 +44,7 @@ module _ {s : List ℤ} (h : Holds 0 s) where
   -- the head as it stands in the slice
   head-seen : part 0 (suc (suc (suc (rankAt 0 s)))) (view s) ≡ kindAt 0 s ∷ denseAt 0 s ∷ rankAt 0 s ∷ extents s
   head-seen =
-      let long : 1802 ≤ length (view s) = rw view-length (h .inside) in
+      let long : partSize ≤ length (view s) = rw view-length (h .inside) in
       part-cons 0 (suc (suc (rankAt 0 s))) (view s) (omega arith)
       ∙ ap (λ (l : List ℕ). kindAt 0 s ∷ l)
       (part-cons 1 (suc (rankAt 0 s)) (view s) (omega arith)
@@ -76,14 +76,14 @@ module _ {s : List ℤ} (h : Holds 0 s) where
   encoded =
       rw (shape-length h)
       (four-lists (kindAt 0 s ∷ denseAt 0 s ∷ rankAt 0 s ∷ extents s) (section (tableAt 7 (widthAt 0 s) s))
-      (section (tableAt 520 (rankAt 0 s + 1) s)) (section (tableAt 1161 (rankAt 0 s + 1) s)))
+      (section (tableAt statesFrom (rankAt 0 s + 1) s)) (section (tableAt inputsFrom (rankAt 0 s + 1) s)))
 
   -- the sections are written one behind the other
   module _ {states inputs r : ℕ} (t : List ℤ) {t₁ t₂ t₃ t₄ : List ℤ}
       (p₁ : t₁ ≡ over (take (rankAt 0 s + 3) s) t)
       (p₂ : TableStored 7 (widthAt 0 s) (rankAt 0 s + 3) s t₁ t₂ states)
-      (p₃ : TableStored 520 (rankAt 0 s + 1) states s t₂ t₃ inputs)
-      (p₄ : TableStored 1161 (rankAt 0 s + 1) inputs s t₃ t₄ r) where
+      (p₃ : TableStored statesFrom (rankAt 0 s + 1) states s t₂ t₃ inputs)
+      (p₄ : TableStored inputsFrom (rankAt 0 s + 1) inputs s t₃ t₄ r) where
     head-over : t₁ ≡ over (headNumbers s) t
     unfolding part
     head-over = p₁ ∙ rw head-numbers
@@ -122,14 +122,14 @@ module _ {s : List ℤ} (h : Holds 0 s) where
     pub rows-there : Fits 7 (rank - dense) s
     rows-there = rw (er, ed) (rows-fit h)
 
-    pub states-there : Fits 520 (rank + 1) s
+    pub states-there : Fits statesFrom (rank + 1) s
     states-there = rw er (states-ready h .fits)
 
-    pub inputs-there : Fits 1161 (rank + 1) s
+    pub inputs-there : Fits inputsFrom (rank + 1) s
     inputs-there = rw er (inputs-ready h .fits)
 
     -- the record is written, by the rank and D that were read
     pub layout-stored : {states inputs r : ℕ} {t t₁ t₂ t₃ t₄ : List ℤ} → t₁ ≡ over (take (rank + 3) s) t →
-        TableStored 7 (rank - dense) (rank + 3) s t₁ t₂ states → TableStored 520 (rank + 1) states s t₂ t₃ inputs →
-        TableStored 1161 (rank + 1) inputs s t₃ t₄ r → Stored s t t₄ r
+        TableStored 7 (rank - dense) (rank + 3) s t₁ t₂ states → TableStored statesFrom (rank + 1) states s t₂ t₃ inputs →
+        TableStored inputsFrom (rank + 1) inputs s t₃ t₄ r → Stored s t t₄ r
     layout-stored {t = t} p₁ p₂ p₃ p₄ = stored t (rw er at p₁) (rw (er, ed) at p₂) (rw er at p₃) (rw er at p₄)

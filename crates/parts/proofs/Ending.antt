@@ -21,7 +21,8 @@ use Rattle.rules.specs.Endings.{stepSays, resultAfter, workAfter, Ends}
 use Rattle.rules.proofs.Same.{both-true}
 use Rattle.rules.proofs.Buffers.{length-zeros}
 use Rattle.tables.specs.Tables.{Only}
-use Rattle.parts.specs.Parts.{workSize, layoutAt}
+use Rattle.rules.specs.Limits.{workSize}
+use Rattle.parts.specs.Parts.{layoutAt}
 use Rattle.parts.specs.Answers.{Stored, Says, Finished}
 
 -- ---- `finish`

@@ -15,11 +15,11 @@ use Rattle.cells.proofs.View.{view-length, view-part}
 use Rattle.tables.specs.Tables.{tableAt, Only, Fits, Ready}
 use Rattle.tables.proofs.Only.{part-outside}
 use Rattle.tables.proofs.Tables.{table-length}
-use Rattle.parts.specs.Parts.{kindAt, denseAt, rankAt, widthAt, layoutAt, Holds, Apart}
+use Rattle.parts.specs.Parts.{partSize, extentsFrom, rowsFrom, statesFrom, inputsFrom, kindAt, denseAt, rankAt, widthAt, layoutAt, Holds, Apart}
 use Rattle.parts.proofs.Copied.{number-copied, part-copied, table-copied}
 
 -- the extents of a rank of at most 4 are all there, so a rank is at most 4 if they are
-rank-by : (at : ℕ) (s : List ℤ) → at + 1802 ≤ length s → length (part (at + 3) (rankAt at s) (view s)) ≤ 4 → rankAt at s ≤ 4
+rank-by : (at : ℕ) (s : List ℤ) → at + partSize ≤ length s → length (part (at + extentsFrom) (rankAt at s) (view s)) ≤ 4 → rankAt at s ≤ 4
 unfolding part
 rank-by at s h few = let k = simp (length-take, length-drop, view-length) at few in omega arith
 
@@ -35,8 +35,8 @@ module _ {at : ℕ} {s : List ℤ} (h : Holds at s) where
   rank-most = rank-by at s (h .inside) (h .sound .form .rank-most)
 
   -- there are as many extents as the rank says
-  pub shape-length : length (part (at + 3) (rankAt at s) (view s)) ≡ rankAt at s
-  shape-length = let r = rank-most in length-part (at + 3) (rankAt at s) (view s) (rw view-length (omega (arith, h .inside)))
+  pub shape-length : length (part (at + extentsFrom) (rankAt at s) (view s)) ≡ rankAt at s
+  shape-length = let r = rank-most in length-part (at + extentsFrom) (rankAt at s) (view s) (rw view-length (omega (arith, h .inside)))
 
   -- the rank of the layout is the one that stands there
   pub rank-is : rank (layoutAt at s) ≡ rankAt at s
@@ -49,20 +49,20 @@ module _ {at : ℕ} {s : List ℤ} (h : Holds at s) where
   dense-most = rw shape-length at (h .sound .form .dense-most)
 
   -- each table has at most 128 rows
-  pub rows-few : getD (view s) (at + 7) 0 ≤ 128
+  pub rows-few : getD (view s) (at + rowsFrom) 0 ≤ 128
   unfolding layoutAt
   rows-few = rw table-length at (h .sound .sizes .rows-few)
 
-  pub states-few : getD (view s) (at + 520) 0 ≤ 128
+  pub states-few : getD (view s) (at + statesFrom) 0 ≤ 128
   unfolding layoutAt
   states-few = rw table-length at (h .sound .sizes .states-few)
 
-  pub inputs-few : getD (view s) (at + 1161) 0 ≤ 128
+  pub inputs-few : getD (view s) (at + inputsFrom) 0 ≤ 128
   unfolding layoutAt
   inputs-few = rw table-length at (h .sound .sizes .inputs-few)
 
   -- the rows fit their room
-  pub rows-fit : Fits (at + 7) (widthAt at s) s
+  pub rows-fit : Fits (at + rowsFrom) (widthAt at s) s
   unfolding layoutAt
   rows-fit = record {
     room = let r = rank-most in omega (arith, h .inside);
@@ -71,14 +71,14 @@ module _ {at : ℕ} {s : List ℤ} (h : Holds at s) where
   }
 
   -- the dependencies fit their room, and increase
-  pub states-ready : Ready (at + 520) (rankAt at s + 1) s
+  pub states-ready : Ready (at + statesFrom) (rankAt at s + 1) s
   unfolding layoutAt
   states-ready = record {
     fits = record { room = let r = rank-most in omega (arith, h .inside); few = states-few; low = h .low .states-low };
     increasing = h .sound .form .states-fit .increase;
   }
 
-  pub inputs-ready : Ready (at + 1161) (rankAt at s + 1) s
+  pub inputs-ready : Ready (at + inputsFrom) (rankAt at s + 1) s
   unfolding layoutAt
   inputs-ready = record {
     fits = record { room = let r = rank-most in omega (arith, h .inside); few = inputs-few; low = h .low .inputs-low };
@@ -89,30 +89,30 @@ module _ {at : ℕ} {s : List ℤ} (h : Holds at s) where
 
 -- the part at b of t has the numbers of the part at a of s
 pub record Moved (a b : ℕ) (s t : List ℤ) : Type 0 where
-  pub numbers : part b 1802 t ≡ part a 1802 s
+  pub numbers : part b partSize t ≡ part a partSize s
 
 module _ {a b : ℕ} {s t : List ℤ} (m : Moved a b s t) where
   kind-moved : kindAt b t ≡ kindAt a s
-  kind-moved = simp add-zero at (number-copied b a 1802 s t (m .numbers) 0 (omega arith))
+  kind-moved = simp add-zero at (number-copied b a partSize s t (m .numbers) 0 (omega arith))
 
   dense-moved : denseAt b t ≡ denseAt a s
-  dense-moved = number-copied b a 1802 s t (m .numbers) 1 (omega arith)
+  dense-moved = number-copied b a partSize s t (m .numbers) 1 (omega arith)
 
   pub rank-moved : rankAt b t ≡ rankAt a s
-  rank-moved = number-copied b a 1802 s t (m .numbers) 2 (omega arith)
+  rank-moved = number-copied b a partSize s t (m .numbers) 2 (omega arith)
 
   module _ (h : Holds a s) where
-    shape-moved : part (b + 3) (rankAt a s) (view t) ≡ part (a + 3) (rankAt a s) (view s)
+    shape-moved : part (b + extentsFrom) (rankAt a s) (view t) ≡ part (a + extentsFrom) (rankAt a s) (view s)
     shape-moved =
         let r = rank-most h in
-        sym (view-part (b + 3) (rankAt a s) t) ∙ ap view (part-copied b a 1802 s t (m .numbers) 3 (rankAt a s) (omega arith)) ∙ view-part (a + 3) (rankAt a s) s
+        sym (view-part (b + extentsFrom) (rankAt a s) t) ∙ ap view (part-copied b a partSize s t (m .numbers) 3 (rankAt a s) (omega arith)) ∙ view-part (a + extentsFrom) (rankAt a s) s
 
-    table-moved : (k w : ℕ) → Fits (a + k) w s → k + 1 + 128 * w ≤ 1802 → tableAt (b + k) w t ≡ tableAt (a + k) w s
+    table-moved : (k w : ℕ) → Fits (a + k) w s → k + 1 + 128 * w ≤ partSize → tableAt (b + k) w t ≡ tableAt (a + k) w s
     unfolding tableAt
     table-moved k w f l =
         let n : ℕ = getD (view s) (a + k) 0 in
         let small : n * w ≤ 128 * w = mul-le-mul-right w (f .few) in
-        table-copied (b + k) (a + k) (1 + n * w) s t (part-copied b a 1802 s t (m .numbers) k (1 + n * w) (omega arith)) w n refl (omega arith)
+        table-copied (b + k) (a + k) (1 + n * w) s t (part-copied b a partSize s t (m .numbers) k (1 + n * w) (omega arith)) w n refl (omega arith)
 
     -- the layout is the same
     pub layout-moved : layoutAt b t ≡ layoutAt a s
@@ -125,18 +125,18 @@ module _ {a b : ℕ} {s t : List ℤ} (m : Moved a b s t) where
           rank-moved,
           shape-moved,
           table-moved 7 (widthAt a s) (rows-fit h) (omega arith),
-          table-moved 520 (rankAt a s + 1) (states-ready h .fits) (omega arith),
-          table-moved 1161 (rankAt a s + 1) (inputs-ready h .fits) (omega arith),
+          table-moved statesFrom (rankAt a s + 1) (states-ready h .fits) (omega arith),
+          table-moved inputsFrom (rankAt a s + 1) (inputs-ready h .fits) (omega arith),
         )
 
-    pub holds-moved : b + 1802 ≤ length t → Holds b t
+    pub holds-moved : b + partSize ≤ length t → Holds b t
     holds-moved l = record { inside = l; sound = rw layout-moved (h .sound); low = rw layout-moved (h .low) }
 
 -- ---- writing elsewhere
 
 module _ {at a e : ℕ} {s t : List ℤ} (o : Only a e s t) (d : Apart at a e) where
   stays : Moved at at s t
-  stays = record { numbers = part-outside o at 1802 d }
+  stays = record { numbers = part-outside o at partSize d }
 
   pub rank-outside : rankAt at t ≡ rankAt at s
   rank-outside = rank-moved stays

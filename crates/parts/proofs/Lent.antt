@@ -14,7 +14,7 @@ use Rattle.rules.specs.Endings.{stepSays}
 use Rattle.rules.proofs.Buffers.{length-part, lent, part-part, part-put-all}
 use Rattle.tables.specs.Tables.{Only}
 use Rattle.tables.proofs.Only.{only-put}
-use Rattle.parts.specs.Parts.{layoutAt, Holds}
+use Rattle.parts.specs.Parts.{partSize, layoutAt, Holds}
 use Rattle.parts.specs.Answers.{Says}
 use Rattle.parts.proofs.Holds.{Moved, layout-moved, holds-moved}
 
@@ -37,9 +37,9 @@ module _ (a e : ℕ) (s : List ℤ) (h : a ≤ e) (l : e ≤ length s) where
   lent-length = length-part a (e - a) s (omega arith)
 
   -- the part at c of s is at b of what is lent
-  module _ (b c : ℕ) (k : a + b ≡ c) (m : b + 1802 ≤ e - a) where
+  module _ (b c : ℕ) (k : a + b ≡ c) (m : b + partSize ≤ e - a) where
     lent-same : Moved c b s (lentOf a e s)
-    lent-same = rw (← k) (record { numbers = unfold part in part-part a (e - a) b 1802 s m })
+    lent-same = rw (← k) (record { numbers = unfold part in part-part a (e - a) b partSize s m })
 
     pub lent-layout : Holds c s → layoutAt b (lentOf a e s) ≡ layoutAt c s
     lent-layout g = layout-moved lent-same g
@@ -69,11 +69,11 @@ module _ (a e : ℕ) (s : List ℤ) (h : a ≤ e) (l : e ≤ length s) where
         let k : a + length new ≡ e = omega arith in
         rw is-put (rw k at (only-put a new s (omega arith)))
 
-    module _ (b c : ℕ) (k : a + b ≡ c) (m : b + 1802 ≤ e - a) where
+    module _ (b c : ℕ) (k : a + b ≡ c) (m : b + partSize ≤ e - a) where
       back-same : Moved b c new (backIn a e s new)
       back-same =
           let t : List ℤ = backIn a e s new in
-          rw (← k) (record { numbers = sym (part-part a (e - a) b 1802 t m) ∙ ap (part b 1802) back-there })
+          rw (← k) (record { numbers = sym (part-part a (e - a) b partSize t m) ∙ ap (part b partSize) back-there })
 
       pub back-layout : Holds b new → layoutAt c (backIn a e s new) ≡ layoutAt b new
       back-layout g = layout-moved back-same g
@@ -90,8 +90,8 @@ module _ (a e : ℕ) (s : List ℤ) (h : a ≤ e) (l : e ≤ length s) where
 
 -- one part, lent from its begin
 module _ {at : ℕ} {s : List ℤ} (h : Holds at s) where
-  pub lent-part-layout : layoutAt 0 (lentOf at (at + 1802) s) ≡ layoutAt at s
-  lent-part-layout = lent-layout at (at + 1802) s (omega arith) (h .inside) 0 at (omega arith) (omega arith) h
+  pub lent-part-layout : layoutAt 0 (lentOf at (at + partSize) s) ≡ layoutAt at s
+  lent-part-layout = lent-layout at (at + partSize) s (omega arith) (h .inside) 0 at (omega arith) (omega arith) h
 
-  pub lent-part-holds : Holds 0 (lentOf at (at + 1802) s)
-  lent-part-holds = lent-holds at (at + 1802) s (omega arith) (h .inside) 0 at (omega arith) (omega arith) h
+  pub lent-part-holds : Holds 0 (lentOf at (at + partSize) s)
+  lent-part-holds = lent-holds at (at + partSize) s (omega arith) (h .inside) 0 at (omega arith) (omega arith) h

@@ -24,7 +24,7 @@ use Rattle.records.specs.Judging.{Plain}
 use Rattle.records.specs.Sound.{SoundRecord}
 use Rattle.records.proofs.Layouts.{axes, seen, has-states, has-inputs}
 use Rattle.records.proofs.SoundRecords.{lies, layout-sound, layout-shown}
-use Rattle.parts.specs.Parts.{kindAt, denseAt, rankAt, layoutAt}
+use Rattle.parts.specs.Parts.{partSize, statesFrom, inputsFrom, kindAt, denseAt, rankAt, layoutAt}
 use Rattle.parts.specs.Answers.{Loaded}
 use Rattle.parts.proofs.Copied.{number-copied, part-copied, table-copied}
 
@@ -90,11 +90,11 @@ module _ {h : Head} {s : List ℤ} (r : SoundRecord h s) where
 
   -- ---- the part after the four writes
 
-  module _ (t : List ℤ) {t₁ t₂ t₃ t₄ : List ℤ} (room : 1802 ≤ length t)
+  module _ (t : List ℤ) {t₁ t₂ t₃ t₄ : List ℤ} (room : partSize ≤ length t)
       (p₁ : t₁ ≡ put 0 (part 0 (h .rank + 3 - 0) s) t)
       (p₂ : t₂ ≡ put 7 (part (h .rank + 3) (h .rows .next - (h .rank + 3)) s) t₁)
-      (p₃ : t₃ ≡ put 520 (part (h .rows .next) (h .states .next - h .rows .next) s) t₂)
-      (p₄ : t₄ ≡ put 1161 (part (h .states .next) (h .inputs .next - h .states .next) s) t₃) where
+      (p₃ : t₃ ≡ put statesFrom (part (h .rows .next) (h .states .next - h .rows .next) s) t₂)
+      (p₄ : t₄ ≡ put inputsFrom (part (h .states .next) (h .inputs .next - h .states .next) s) t₃) where
     -- each write
     c₁ : Copied 0 0 (h .rank + 3 - 0) s t t₁
     c₁ = let b = places in copied 0 0 (h .rank + 3 - 0) s t (omega arith) (omega arith) p₁
@@ -102,28 +102,28 @@ module _ {h : Head} {s : List ℤ} (r : SoundRecord h s) where
     c₂ : Copied 7 (h .rank + 3) (h .rows .next - (h .rank + 3)) s t₁ t₂
     c₂ = let b = places in copied 7 (h .rank + 3) (h .rows .next - (h .rank + 3)) s t₁ (omega arith) (omega (arith, c₁ .only .size)) p₂
 
-    c₃ : Copied 520 (h .rows .next) (h .states .next - h .rows .next) s t₂ t₃
+    c₃ : Copied statesFrom (h .rows .next) (h .states .next - h .rows .next) s t₂ t₃
     c₃ =
         let b = places in
-        copied 520 (h .rows .next) (h .states .next - h .rows .next) s t₂ (omega arith) (omega (arith, c₁ .only .size, c₂ .only .size)) p₃
+        copied statesFrom (h .rows .next) (h .states .next - h .rows .next) s t₂ (omega arith) (omega (arith, c₁ .only .size, c₂ .only .size)) p₃
 
-    c₄ : Copied 1161 (h .states .next) (h .inputs .next - h .states .next) s t₃ t₄
+    c₄ : Copied inputsFrom (h .states .next) (h .inputs .next - h .states .next) s t₃ t₄
     c₄ =
         let b = places in
-        copied 1161 (h .states .next) (h .inputs .next - h .states .next) s t₃ (omega arith)
+        copied inputsFrom (h .states .next) (h .inputs .next - h .states .next) s t₃ (omega arith)
         (omega (arith, c₁ .only .size, c₂ .only .size, c₃ .only .size)) p₄
 
     -- what is written later stands behind
-    from-inputs : Only 1161 1802 t₃ t₄
-    from-inputs = let b = places in only-wider (c₄ .only) 1161 1802 (omega arith) (omega arith)
+    from-inputs : Only inputsFrom partSize t₃ t₄
+    from-inputs = let b = places in only-wider (c₄ .only) inputsFrom partSize (omega arith) (omega arith)
 
-    from-states : Only 520 1802 t₂ t₄
+    from-states : Only statesFrom partSize t₂ t₄
     from-states = let b = places in only-on (c₃ .only) from-inputs (omega arith) (omega arith)
 
-    from-rows : Only 7 1802 t₁ t₄
+    from-rows : Only 7 partSize t₁ t₄
     from-rows = let b = places in only-on (c₂ .only) from-states (omega arith) (omega arith)
 
-    from-head : Only 0 1802 t t₄
+    from-head : Only 0 partSize t t₄
     from-head = let b = places in only-on (c₁ .only) from-rows (omega arith) (omega arith)
 
     -- each section in the end
@@ -139,21 +139,21 @@ module _ {h : Head} {s : List ℤ} (r : SoundRecord h s) where
         let l = section-size (p .head .rows) in
         rw (p .head .rows .first) (table-copied 7 (h .rank + 3) size s t₄ there (h .width) (h .rows .count) (l .0) (l .1))
 
-    states-there : tableAt 520 (h .rank + 1) t₄ ≡ rowsAt (h .states .first) (h .rank + 1) (h .states .count) s
+    states-there : tableAt statesFrom (h .rank + 1) t₄ ≡ rowsAt (h .states .first) (h .rank + 1) (h .states .count) s
     states-there =
         let b = places in
         let size : ℕ = h .states .next - h .rows .next in
-        let there : part 520 size t₄ ≡ part (h .rows .next) size s =
-        part-outside from-inputs 520 size (inl (omega arith)) ∙ c₃ .there in
+        let there : part statesFrom size t₄ ≡ part (h .rows .next) size s =
+        part-outside from-inputs statesFrom size (inl (omega arith)) ∙ c₃ .there in
         let l = section-size (p .head .states) in
-        rw (p .head .states .first) (table-copied 520 (h .rows .next) size s t₄ there (h .rank + 1) (h .states .count) (l .0) (l .1))
+        rw (p .head .states .first) (table-copied statesFrom (h .rows .next) size s t₄ there (h .rank + 1) (h .states .count) (l .0) (l .1))
 
-    inputs-there : tableAt 1161 (h .rank + 1) t₄ ≡ rowsAt (h .inputs .first) (h .rank + 1) (h .inputs .count) s
+    inputs-there : tableAt inputsFrom (h .rank + 1) t₄ ≡ rowsAt (h .inputs .first) (h .rank + 1) (h .inputs .count) s
     inputs-there =
         let size : ℕ = h .inputs .next - h .states .next in
         let l = section-size (p .head .inputs) in
         rw (p .head .inputs .first)
-        (table-copied 1161 (h .states .next) size s t₄ (c₄ .there) (h .rank + 1) (h .inputs .count) (l .0) (l .1))
+        (table-copied inputsFrom (h .states .next) size s t₄ (c₄ .there) (h .rank + 1) (h .inputs .count) (l .0) (l .1))
 
     -- the head
     number-there : (k : ℕ) → k < 3 → getD (view t₄) (0 + k) 0 ≡ getD (view s) (0 + k) 0

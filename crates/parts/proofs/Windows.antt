@@ -10,7 +10,8 @@ use Rattle.rules.specs.declared.Step.{Step}
 use Rattle.rules.specs.Refusals.{Verdict}
 use Rattle.rules.specs.Layout.{Layout}
 use Rattle.tables.specs.Tables.{Only}
-use Rattle.parts.specs.Parts.{workSize, windowSize, left, right, target, Holds}
+use Rattle.rules.specs.Limits.{workSize}
+use Rattle.parts.specs.Parts.{partSize, windowSize, left, right, target, Holds}
 use Rattle.parts.specs.Answers.{Loaded, PairLoaded, Says}
 use Rattle.parts.proofs.Holds.{layout-outside, holds-outside}
 use Rattle.parts.proofs.Lent.{lentOf, backIn, lent-again, back-only, back-layout, back-holds, back-says}
@@ -55,3 +56,12 @@ module _ (work : List ℤ) (long : workSize ≤ length work) (w : List ℤ) (sam
 
   pub window-says : {v : Verdict Layout} {step : Step} → Says v target w step → Says v target (backIn 0 windowSize work w) step
   window-says d = back-says 0 windowSize work (omega arith) (omega arith) w same target target refl (omega arith) d
+
+-- ---- one part at the front of the working buffer
+
+module _ (work : List ℤ) (long : workSize ≤ length work) (p : List ℤ) (same : length p ≡ length (lentOf 0 partSize work)) where
+  pub part-only : Only 0 partSize work (backIn 0 partSize work p)
+  part-only = back-only 0 partSize work (omega arith) (omega arith) p same
+
+  pub part-says : {v : Verdict Layout} {step : Step} → Says v 0 p step → Says v 0 (backIn 0 partSize work p) step
+  part-says d = back-says 0 partSize work (omega arith) (omega arith) p same 0 0 refl (omega arith) d

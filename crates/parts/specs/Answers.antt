@@ -13,7 +13,8 @@ use Rattle.rules.specs.Layout.{Layout, section, encode}
 use Rattle.rules.specs.Record.{layoutIn}
 use Rattle.rules.specs.Endings.{writtenSays, stepSays, resultAfter}
 use Rattle.tables.specs.Tables.{tableAt, roomEnd}
-use Rattle.parts.specs.Parts.{workSize, left, right, layoutAt, Holds, Window}
+use Rattle.rules.specs.Limits.{workSize}
+use Rattle.parts.specs.Parts.{left, right, layoutAt, Holds, Window}
 
 -- a part holds the layout of a record
 pub record Loaded (from part : List ℤ) : Type 0 where

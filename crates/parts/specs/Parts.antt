@@ -5,6 +5,7 @@ use mathlib.Core.List.{List}
 use Prim.Native.Nat.{ℕ, _+_, _-_, _≤_}
 use lib.IntN.{ℤ}
 use lib.ListN.{length, getD}
+use Rattle.rules.specs.Limits.{resultSize}
 use Rattle.rules.specs.Buffers.{part}
 use Rattle.rules.specs.Layout.{Layout}
 use Rattle.rules.proofs.Soundness.{Sound}
@@ -12,13 +13,22 @@ use Rattle.rules.proofs.Low.{DepsLow}
 use Rattle.cells.specs.View.{view}
 use Rattle.tables.specs.Tables.{tableAt}
 
--- the numbers of a part
+-- a part is as long as the longest record
 abbrev pub partSize : ℕ
-partSize = 1802
+partSize = resultSize
 
--- the numbers of the working buffer: six parts
-abbrev pub workSize : ℕ
-workSize = 10812
+-- where the sections stand in a part: the extents, and the counts of rows, states and inputs
+abbrev pub extentsFrom : ℕ
+extentsFrom = 3
+
+abbrev pub rowsFrom : ℕ
+rowsFrom = 7
+
+abbrev pub statesFrom : ℕ
+statesFrom = 520
+
+abbrev pub inputsFrom : ℕ
+inputsFrom = 1161
 
 -- a window of five parts: two layouts, the one that is made of them, and spare room
 abbrev pub windowSize : ℕ
@@ -57,15 +67,15 @@ unfoldable pub layoutAt : ℕ → List ℤ → Layout
 layoutAt at s = record {
   kind = kindAt at s;
   dense = denseAt at s;
-  shape = part (at + 3) (rankAt at s) (view s);
-  rows = tableAt (at + 7) (widthAt at s) s;
-  states = tableAt (at + 520) (rankAt at s + 1) s;
-  inputs = tableAt (at + 1161) (rankAt at s + 1) s;
+  shape = part (at + extentsFrom) (rankAt at s) (view s);
+  rows = tableAt (at + rowsFrom) (widthAt at s) s;
+  states = tableAt (at + statesFrom) (rankAt at s + 1) s;
+  inputs = tableAt (at + inputsFrom) (rankAt at s + 1) s;
 }
 
 -- the part lies in the slice, its layout is sound, and the numbers of its dependencies are natural 32-bit numbers
 pub record Holds (at : ℕ) (s : List ℤ) : Type 0 where
-  pub inside : at + 1802 ≤ length s
+  pub inside : at + partSize ≤ length s
   pub sound : Sound (layoutAt at s)
   pub low : DepsLow (layoutAt at s)
 
@@ -77,4 +87,4 @@ pub record Window (s : List ℤ) : Type 0 where
 
 -- what stands from a up to e is apart from the part at a place
 abbrev pub Apart : ℕ → ℕ → ℕ → Type 0
-Apart at a e = (at + 1802 ≤ a) ⊎ (e ≤ at)
+Apart at a e = (at + partSize ≤ a) ⊎ (e ≤ at)

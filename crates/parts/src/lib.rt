@@ -6,7 +6,8 @@ ghost use Rattle.rules.specs.declared.Step.the-variants.{Done};
 ghost use Rattle.rules.specs.Buffers.{part, over, put, zeros};
 ghost use Rattle.tables.specs.Tables.{roomEnd, Fits};
 ghost use Rattle.records.specs.Sound.{SoundRecord};
-ghost use Rattle.parts.specs.Parts.{partSize, workSize, windowSize, Holds};
+ghost use Rattle.rules.specs.Limits.{workSize};
+ghost use Rattle.parts.specs.Parts.{partSize, windowSize, Holds};
 ghost use Rattle.parts.specs.Answers.{Loaded, PairLoaded, TableStored, Stored, Finished};
 use rules::Head;
 use rules::Refusal;
@@ -14,9 +15,9 @@ use rules::Step;
 use rules::Written;
 
 // The working buffer: six parts, each as long as the longest record.
-pub const PART: usize = 1802;
+pub const PART: usize = rules::RESULT_SIZE;
 
-pub const WORK: usize = 10812;
+pub const WORK: usize = rules::WORK_SIZE;
 
 // Where the sections of a layout stand in its part.
 pub const KIND: usize = 0;
@@ -36,17 +37,17 @@ pub const STATES: usize = 520;
 pub const INPUTS: usize = 1161;
 
 // A window of five parts: where a step finds its two layouts, where it makes a third, and what it may use besides.
-pub const WINDOW: usize = 9010;
-
 pub const LEFT: usize = 0;
 
-pub const RIGHT: usize = 1802;
+pub const RIGHT: usize = LEFT + PART;
 
-pub const TARGET: usize = 3604;
+pub const TARGET: usize = RIGHT + PART;
 
-pub const SPARE: usize = 5406;
+pub const SPARE: usize = TARGET + PART;
 
-pub const OTHER_SPARE: usize = 7208;
+pub const OTHER_SPARE: usize = SPARE + PART;
+
+pub const WINDOW: usize = OTHER_SPARE + PART;
 
 // The numbers from a up to e of one slice go to a place of another.
 fn load_part(from: &[i32], a: usize, e: usize, work: &mut [i32], to: usize)

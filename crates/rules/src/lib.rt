@@ -1,4 +1,20 @@
-// The types of the answers. What each answer means stands in specs/.
+// The limits and the types of the answers. What each answer means stands in specs/.
+
+// How large things may be; specs/Limits.antt says what each limit bounds.
+pub const RANK_LIMIT: usize = 4;
+
+pub const LIST_LIMIT: usize = 16;
+
+pub const ENTRY_LIMIT: usize = 128;
+
+pub const PRODUCT_LIMIT: usize = 65536;
+
+pub const COMPONENT_LIMIT: usize = 65535;
+
+// How many numbers a lent result and a lent working buffer must have.
+pub const RESULT_SIZE: usize = 1802;
+
+pub const WORK_SIZE: usize = 10812;
 
 // Why a call is refused; specs/Refusals.antt gives each its number.
 pub enum Refusal {

@@ -1,0 +1,72 @@
+-- How a step in the window ends, by whatever rule: refused, or with a layout in the target. Assumes nothing.
+use mathlib.Core.Path.{_≡_, refl, sym, ap, _∙_}
+use mathlib.Core.Bool.{Bool, true, false}
+use mathlib.Core.List.{List, []}
+use Prim.Native.Nat.{ℕ, _≤_}
+use native.Mathlib.Omega.{arith}
+use lib.IntN.{ℤ}
+use lib.ListN.{length}
+use Rattle.rules.specs.declared.Step.{Step}
+use Rattle.rules.specs.declared.Step.the-variants.{Done, Refused}
+use Rattle.rules.specs.declared.Refusal.{Refusal}
+use Rattle.rules.specs.declared.Refusal.the-variants.{MadeTooLarge}
+use Rattle.rules.specs.Lists.{same}
+use Rattle.rules.specs.Refusals.{Verdict, given, refused, numberOf}
+use Rattle.rules.specs.Layout.{Layout}
+use Rattle.rules.proofs.Same.{same-true}
+use Rattle.rules.proofs.Soundness.{Sound}
+use Rattle.rules.proofs.Low.{DepsLow}
+use Rattle.rules.proofs.Made.{fewOr}
+use Rattle.tables.proofs.Only.{only-same}
+use Rattle.parts.specs.Parts.{windowSize, left, right, target, denseAt, rankAt, layoutAt, Window}
+use Rattle.parts.proofs.Holds.{rank-is, dense-most}
+use Rattle.combine.specs.Window.{BareAsked, madeStep, Made, Combined}
+
+-- a layout that is too large
+pub too-large : {few : Bool} → few ≡ false → Refused MadeTooLarge ≡ madeStep few
+too-large e = rw e
+
+-- a refusal is no answer
+never-done : {x : Refusal} → Refused x ≡ Done → ⊥
+never-done e = let z : _≡_ {A = ℕ} 0 1 = cc in omega arith
+
+-- a rule that makes a sound layout of two sound ones, with low dependencies of low ones
+pub record Makes (rule : Layout → Layout → Verdict Layout) : Type 0 where
+  pub sound : (a b : Layout) {l : Layout} → rule a b ≡ given l → Sound l
+  pub low : {a b l : Layout} → DepsLow a → DepsLow b → rule a b ≡ given l → DepsLow l
+
+module _ {rule : Layout → Layout → Verdict Layout} {s : List ℤ} (q : Window s) where
+  -- nothing is written
+  pub combine-refused : (r : Refusal) → rule (layoutAt left s) (layoutAt right s) ≡ refused (numberOf r) → Combined rule s s (Refused r)
+  combine-refused r e = record { says = record { is = sym e; holds = λ d. absurd (never-done d) }; only = only-same target windowSize s }
+
+  -- a layout was made, or is too large
+  pub combine-made : Makes rule → {l : Layout} {t : List ℤ} → rule (layoutAt left s) (layoutAt right s) ≡ fewOr l → {few : Bool} → Made l s t few → Combined rule s t (madeStep few)
+  combine-made makes {l} {t} e {few = true} m =
+      let is : rule (layoutAt left s) (layoutAt right s) ≡ given (layoutAt target t) = e ∙ rw (← m .verdict, m .layout refl) in
+      record {
+        says = record {
+          is = sym is;
+          holds = λ _. record { inside = omega (arith, q .room, m .only .size); sound = makes .sound (layoutAt left s) (layoutAt right s) is; low = makes .low (q .first .low) (q .second .low) is };
+        };
+        only = m .only;
+      }
+  combine-made makes e {few = false} m = record { says = record { is = sym (e ∙ (unfold numberOf in rw (← m .verdict))); holds = λ d. absurd (never-done d) }; only = m .only }
+
+-- ---- layouts of one shape
+
+module _ {s : List ℤ} (q : Window s) {r : Bool} (r-is : r ≡ same (layoutAt left s .shape) (layoutAt right s .shape)) (agree : r ≡ true) where
+  pub shapes-same : same (layoutAt left s .shape) (layoutAt right s .shape) ≡ true
+  shapes-same = sym r-is ∙ agree
+
+  ranks : rankAt left s ≡ rankAt right s
+  ranks = sym (rank-is (q .first)) ∙ ap length (same-true shapes-same) ∙ rank-is (q .second)
+
+  ask-bare : {kind dense : ℕ} → kind ≤ 2 → dense ≤ rankAt left s → BareAsked kind dense s
+  ask-bare h k = record { deps = record { window = q; ranks = ranks }; head = record { window = q; kind-most = h; dense-most = k } }
+
+  pub ask-dense : {n : ℕ} → n ≡ rankAt left s → BareAsked 0 n s
+  ask-dense e = ask-bare (omega arith) (omega arith)
+
+  pub ask-diagonal : {d : ℕ} → d ≡ denseAt left s → BareAsked 1 d s
+  ask-diagonal e = let l = dense-most (q .first) in ask-bare (omega arith) (omega arith)

@@ -1,0 +1,3 @@
+-- What the contracts of judging cite.
+pub mod LentSizes
+pub mod Judging

@@ -1,0 +1,88 @@
+// What is judged of arguments that several calls take. A call judges 1 and 2 first, which leave both buffers as they are, then its other
+// reasons one by one, after which the working buffer is cleared.
+ghost use mathlib.Core.Path.{_≡_};
+ghost use mathlib.Core.Bool.{_||_};
+ghost use Rattle.judging.specs.LentSizes.{SizesAre};
+ghost use Rattle.judging.specs.Judging.{ShapeIs, PairIs};
+use rules::Head;
+use rules::Refusal;
+use rules::Walk;
+
+// No count is over its limit and both lent buffers are long enough; or why the call is refused.
+pub enum Sizes {
+    Kept,
+    Refused(Refusal),
+}
+
+// A shape that obeys the extent rules, beside a result that is long enough; or why the call is refused.
+pub enum Shape {
+    Good,
+    Refused(Refusal),
+}
+
+// The heads of two sound records, or why the call is refused.
+pub enum Pair {
+    Sound(Head, Head),
+    Refused(Refusal),
+}
+
+// Whether one of two tests holds.
+pub fn either(a: bool, b: bool) -> bool
+    ensures { λ r. ⌜ r ≡ a || b ⌝ }
+{
+    if a {
+        return true;
+    }
+    b
+}
+
+// Whether a count is over its limit is told; it, a result of so many numbers and a working buffer of so many are judged with 1 and 2.
+pub fn judge_sizes(over: bool, result: usize, work: usize) -> Sizes
+    ensures { λ r. ⌜ SizesAre over result work r ⌝ }
+{
+    if over {
+        return Sizes::Refused(Refusal::OverCount);
+    }
+    if result < parts::PART {
+        return Sizes::Refused(Refusal::ShortBuffer);
+    }
+    if work < parts::WORK {
+        return Sizes::Refused(Refusal::ShortBuffer);
+    }
+    Sizes::Kept
+}
+
+// A shape and a result with room for so many numbers, judged with 1, 2 and 5.
+pub fn judge_shape(shape: &[i32], room: usize) -> Shape
+    ensures { λ r. ⌜ ShapeIs (now (shape .entry)) room r ⌝ }
+{
+    if shapes::over_shape(shape) {
+        return Shape::Refused(Refusal::OverCount);
+    }
+    if room < parts::PART {
+        return Shape::Refused(Refusal::ShortBuffer);
+    }
+    if !shapes::good_shape(shape) {
+        return Shape::Refused(Refusal::WrongArgument);
+    }
+    Shape::Good
+}
+
+// Two records, judged with 1 and 3.
+pub fn judge_pair(a: &[i32], b: &[i32]) -> Pair
+    ensures { λ r. ⌜ PairIs (now (a .entry)) (now (b .entry)) r ⌝ }
+{
+    if records::over_record(a) {
+        return Pair::Refused(Refusal::OverCount);
+    }
+    if records::over_record(b) {
+        return Pair::Refused(Refusal::OverCount);
+    }
+    let Walk::To(first) = records::sound_head(a) else {
+        return Pair::Refused(Refusal::Unsound);
+    };
+    let Walk::To(second) = records::sound_head(b) else {
+        return Pair::Refused(Refusal::Unsound);
+    };
+    Pair::Sound(first, second)
+}

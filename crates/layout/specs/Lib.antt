@@ -1,3 +1,0 @@
--- What the contracts inside layout cite.
-pub mod Judging
-pub mod Pairs

@@ -1,0 +1,29 @@
+// The public functions that make one layout of two, module 8: both records are loaded into the window, and a step combines them there.
+ghost use lib.ListN.{length};
+ghost use Rattle.rules.specs.Refusals.{inForm};
+ghost use Rattle.rules.specs.Layout.{encode};
+ghost use Rattle.rules.specs.Endings.{Ends};
+ghost use Rattle.rules.specs.Union.{unionCall};
+use judging::Sizes;
+use rules::Refusal;
+use rules::Walk;
+use rules::Written;
+
+// The union of two records goes to the result.
+pub fn union(left: &[i32], right: &[i32], result: &mut [i32], work: &mut [i32]) -> Written
+    ensures { λ r. ⌜ Ends (inForm encode (unionCall (now (left .entry)) (now (right .entry)) (length (now (result .entry))) (length (now (work .entry))))) (now (result .entry)) (now (work .entry)) r (now (result .exit)) (now (work .exit)) ⌝ }
+{
+    let over = judging::either(records::over_record(left), records::over_record(right));
+    if let Sizes::Refused(why) = judging::judge_sizes(over, result.len(), work.len()) {
+        return Written::Refused(why);
+    }
+    let Walk::To(first) = records::sound_head(left) else {
+        return parts::refuse(Refusal::Unsound, work);
+    };
+    let Walk::To(second) = records::sound_head(right) else {
+        return parts::refuse(Refusal::Unsound, work);
+    };
+    parts::load_pair(left, first, right, second, &mut work[0..parts::WINDOW]);
+    let step = combine::union_in(&mut work[0..parts::WINDOW]);
+    parts::finish(step, work, parts::TARGET, result)
+}

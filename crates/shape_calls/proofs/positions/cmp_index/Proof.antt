@@ -1,0 +1,25 @@
+-- `cmp_index`: by the first reason that holds.
+use borrow.Author.Needs.{needs}
+use Rattle.rules.specs.Positions.{cmpIndexCall}
+use Rattle.rules.specs.Refusals.{numberOf}
+use Rattle.judging.proofs.Judged.{judged}
+use Rattle.judging.proofs.Required.{lengths-same}
+use Rattle.shape_calls.proofs.positions.cmp_index.Statement.{statement}
+use Rattle.shape_calls.proofs.positions.cmp_index.Tie as tie
+
+comparable-requires : tie.Need-comparable-requires
+comparable-requires c κs = search needs
+
+returns : tie.Need-returns
+unfolding cmpIndexCall numberOf
+returns c = search judged
+
+cmp-requires : tie.Need-cmp-requires
+cmp-requires c κs = search lengths-same
+
+returns-2 : tie.Need-returns-2
+unfolding cmpIndexCall numberOf
+returns-2 c = search judged
+
+pub cmp-index-spec : {M : Type 1} → statement M
+cmp-index-spec = tie.close (tie.spec comparable-requires returns cmp-requires returns-2)
