@@ -14,7 +14,8 @@ use Rattle.rules.specs.Lists.{same}
 use Rattle.rules.specs.Refusals.{given, refused, numberOf}
 use Rattle.rules.specs.Layout.{Layout}
 use Rattle.rules.specs.CountsAndForms.{toDense}
-use Rattle.rules.specs.Union.{withMerged, union}
+use Rattle.rules.specs.Pairs.{withMerged}
+use Rattle.rules.specs.Union.{union}
 use Rattle.rules.proofs.Same.{same-true}
 use Rattle.rules.proofs.Soundness.{diagonal-rows}
 use Rattle.rules.proofs.Made.{fewOr}

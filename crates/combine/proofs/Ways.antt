@@ -8,8 +8,9 @@ use Rattle.rules.specs.Lists.{if, same}
 use Rattle.rules.specs.Refusals.{refused}
 use Rattle.rules.specs.Layout.{Layout, isDense, isDiagonal}
 use Rattle.rules.specs.CountsAndForms.{toDense}
-use Rattle.rules.specs.Removal.{lowerD, listsRow, barsExpansion}
-use Rattle.rules.specs.Union.{withMerged, alikeDiagonals, union}
+use Rattle.rules.specs.Removal.{listsRow}
+use Rattle.rules.specs.Pairs.{withMerged, alikeDiagonals, lowerD, barsExpansion}
+use Rattle.rules.specs.Union.{union}
 use Rattle.rules.proofs.Same.{both-true, neither}
 use Rattle.rules.proofs.Soundness.{Sound}
 use Rattle.rules.proofs.Made.{fewOr}

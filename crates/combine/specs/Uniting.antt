@@ -12,8 +12,9 @@ use Rattle.rules.specs.Lists.{if, same}
 use Rattle.rules.specs.Buffers.{part}
 use Rattle.rules.specs.RowsInOrder.{merge}
 use Rattle.rules.specs.Layout.{Layout, isDense, few}
-use Rattle.rules.specs.Removal.{lowered, lowerD, listsRow, barsExpansion, fewOf}
-use Rattle.rules.specs.Union.{withMerged, alikeDiagonals, joined, union}
+use Rattle.rules.specs.Removal.{listsRow}
+use Rattle.rules.specs.Pairs.{withMerged, alikeDiagonals, lowered, lowerD, barsExpansion, fewOf}
+use Rattle.rules.specs.Union.{joined, union}
 use Rattle.cells.specs.View.{view}
 use Rattle.tables.specs.Tables.{tableAt, Only}
 use Rattle.parts.specs.Parts.{windowSize, left, right, target, spare, kindAt, denseAt, rankAt, layoutAt, Window}

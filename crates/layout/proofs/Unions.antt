@@ -18,8 +18,9 @@ use Rattle.rules.specs.Record.{layoutIn}
 use Rattle.rules.specs.Endings.{Ends, resultAfter, workAfter}
 use Rattle.rules.specs.Buffers.{over, zeros}
 use Rattle.rules.specs.CountsAndForms.{toDense}
-use Rattle.rules.specs.Removal.{lowered, lowerD, listsRow, barsExpansion}
-use Rattle.rules.specs.Union.{withMerged, joined, alikeDiagonals, unionOfRows, union, unionCall}
+use Rattle.rules.specs.Removal.{listsRow}
+use Rattle.rules.specs.Pairs.{withMerged, alikeDiagonals, lowered, lowerD, barsExpansion}
+use Rattle.rules.specs.Union.{joined, unionOfRows, union, unionCall}
 use Rattle.tables.proofs.Only.{only-same, only-then, only-wider}
 use Rattle.parts.specs.Parts.{workSize, windowSize, target, Window}
 use Rattle.parts.specs.Answers.{PairLoaded, Says, Finished}

@@ -11,7 +11,7 @@ use lib.IntN.{ℤ, pos}
 use lib.ListN.{length, getD, set}
 use Rattle.rules.specs.RowsInOrder.{sorted}
 use Rattle.rules.specs.Layout.{Layout}
-use Rattle.rules.specs.Removal.{lowered}
+use Rattle.rules.specs.Pairs.{lowered}
 use Rattle.rules.proofs.Soundness.{OneKind, is-dense, is-diagonal, is-sparse, one-kind}
 use Rattle.rules.proofs.Sorting.{sorted-length}
 use Rattle.rules.proofs.Extents.{extent-limited}

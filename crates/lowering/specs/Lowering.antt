@@ -10,7 +10,8 @@ use Rattle.rules.specs.Limits.{productLimit}
 use Rattle.rules.specs.Lists.{below, product}
 use Rattle.rules.specs.RowsInOrder.{sorted}
 use Rattle.rules.specs.Layout.{few}
-use Rattle.rules.specs.Removal.{positions, listsRow, barsExpansion}
+use Rattle.rules.specs.Removal.{positions, listsRow}
+use Rattle.rules.specs.Pairs.{barsExpansion}
 use Rattle.rules.proofs.Extents.{nonzeroProduct}
 use Rattle.tables.specs.Rows.{rowAt, HasRow}
 use Rattle.tables.specs.Tables.{tableAt, roomEnd, Only, Ready}

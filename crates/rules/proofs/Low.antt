@@ -12,7 +12,8 @@ use Rattle.rules.specs.Lists.{allBelow}
 use Rattle.rules.specs.RowsInOrder.{merge}
 use Rattle.rules.specs.Refusals.{given}
 use Rattle.rules.specs.Layout.{Layout, rank}
-use Rattle.rules.specs.Union.{withMerged, union}
+use Rattle.rules.specs.Pairs.{withMerged}
+use Rattle.rules.specs.Union.{union}
 use Rattle.rules.proofs.Order.{ComparedNumbers, under, even, above, compareNumbers}
 use Rattle.rules.proofs.Same.{both-true}
 use Rattle.rules.proofs.Sets.{Each, each-append}

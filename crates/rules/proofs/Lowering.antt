@@ -11,7 +11,8 @@ use lib.ListN.{length, getD, drop, replicate, length-append, length-drop, length
 use Rattle.rules.specs.Lists.{none, below, allBelow}
 use Rattle.rules.specs.RowsInOrder.{sorted}
 use Rattle.rules.specs.Layout.{Layout, rank, width, few}
-use Rattle.rules.specs.Removal.{positions, removedRows, listsRow, removeDenseAxes, expanded, lowered, barsExpansion}
+use Rattle.rules.specs.Removal.{positions, removedRows, listsRow, removeDenseAxes}
+use Rattle.rules.specs.Pairs.{lowered, barsExpansion, expanded}
 use Rattle.rules.proofs.Order.{ComparedNumbers, under, even, above, compareNumbers}
 use Rattle.rules.proofs.Same.{both-true}
 use Rattle.rules.proofs.Sets.{In, Each, each-nil}

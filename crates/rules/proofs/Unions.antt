@@ -11,8 +11,9 @@ use Rattle.rules.specs.RowsInOrder.{sorted, merge}
 use Rattle.rules.specs.Refusals.{given, refused, _then_, _when_, lowest}
 use Rattle.rules.specs.Layout.{Layout, rank, isDense, few, withDeps, made}
 use Rattle.rules.specs.CountsAndForms.{toDense}
-use Rattle.rules.specs.Removal.{lowered, lowerD, listsRow, barsExpansion}
-use Rattle.rules.specs.Union.{withMerged, alikeDiagonals, joined, unionOfRows, union}
+use Rattle.rules.specs.Removal.{listsRow}
+use Rattle.rules.specs.Pairs.{withMerged, alikeDiagonals, lowered, lowerD, barsExpansion}
+use Rattle.rules.specs.Union.{joined, unionOfRows, union}
 use Rattle.rules.proofs.Same.{neither, true-not-false, same-true}
 use Rattle.rules.proofs.Sets.{each-nil, each-append}
 use Rattle.rules.proofs.Sorting.{sorted-each, sorted-sorted}

@@ -17,7 +17,8 @@ use Rattle.rules.specs.Dependencies.{onIndex, held, filterDeps}
 use Rattle.rules.specs.Lookup.{readIndex, placeFrom, placeOf, lookup, findNnzIndexCall}
 use Rattle.rules.specs.CountsAndForms.{minRankOf, toDense, denseIfFull, dense}
 use Rattle.rules.specs.Stretching.{sharedAxesFit, stretchedAxes, everyValue, takeAll, stretchRows, stretchDeps, stretched, broadcastToShape}
-use Rattle.rules.specs.Removal.{positions, removedRows, removedDeps, listsRow, removeDenseAxes, expanded, lowered}
+use Rattle.rules.specs.Removal.{positions, removedRows, removedDeps, listsRow, removeDenseAxes}
+use Rattle.rules.specs.Pairs.{lowered, expanded}
 use Rattle.rules.specs.Union.{unionOfRows, union}
 use Rattle.rules.specs.Intersect.{intersect}
 use Rattle.rules.specs.ContractLastAxis.{shortenedDeps, contracted, contractLastAxis}

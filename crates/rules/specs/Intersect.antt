@@ -11,8 +11,8 @@ use Rattle.rules.specs.Record.{layoutIn, sound, ordered}
 use Rattle.rules.specs.Arguments.{overRecord, shortResult, shortWork}
 use Rattle.rules.specs.Dependencies.{filterDeps, barsFilter}
 use Rattle.rules.specs.CountsAndForms.{denseIfFull}
-use Rattle.rules.specs.Removal.{lowered, lowerD, listsRow, barsExpansion, fewOf}
-use Rattle.rules.specs.Union.{withMerged, alikeDiagonals}
+use Rattle.rules.specs.Removal.{listsRow}
+use Rattle.rules.specs.Pairs.{withMerged, alikeDiagonals, lowered, lowerD, barsExpansion, fewOf}
 
 -- the dependencies of two layouts merged, and filtered by a third
 abbrev pub filteredBy : Layout → Layout → Layout → Layout

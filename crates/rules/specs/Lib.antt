@@ -15,6 +15,7 @@ pub mod Lookup
 pub mod CountsAndForms
 pub mod Stretching
 pub mod Removal
+pub mod Pairs
 pub mod Union
 pub mod Intersect
 pub mod ContractLastAxis
