@@ -12,14 +12,14 @@ use Rattle.rules.specs.declared.Written.{Written}
 use Rattle.rules.specs.declared.Written.the-variants.{Refused}
 use Rattle.rules.specs.declared.Head.{Head}
 use Rattle.rules.specs.Lists.{if, same}
-use Rattle.rules.specs.Refusals.{Verdict, refused, inForm, numberOf, Reason, _when_, _then_, lowest}
+use Rattle.rules.specs.Refusals.{Verdict, given, refused, inForm, numberOf, Reason, _when_, _then_, lowest}
 use Rattle.rules.specs.Layout.{Layout, made, isDense, few, encode}
 use Rattle.rules.specs.Record.{layoutIn}
 use Rattle.rules.specs.Endings.{Ends, resultAfter, workAfter}
 use Rattle.rules.specs.Buffers.{over, zeros}
 use Rattle.rules.specs.CountsAndForms.{toDense}
-use Rattle.rules.specs.Removal.{listsRow}
-use Rattle.rules.specs.Pairs.{withMerged, alikeDiagonals, lowered, lowerD, barsExpansion}
+use Rattle.rules.specs.Removal.{listsRow, removesDense}
+use Rattle.rules.specs.Pairs.{withMerged, alikeDiagonals, lowered, lowerD, barsExpansion, unlessDenseRemoved}
 use Rattle.rules.specs.Union.{joined, unionOfRows, union, unionCall}
 use Rattle.tables.proofs.Only.{only-same, only-then, only-wider}
 use Rattle.parts.specs.Parts.{workSize, windowSize, target, Window}
@@ -39,7 +39,11 @@ late-rows a b =
     let x : Layout = lowered a d in
     let y : Layout = lowered b d in
     let reasons : List Reason = 11 when (barsExpansion a || barsExpansion b) ∷ 12 when (listsRow a d || listsRow b d) ∷ 13 when not (few (x .rows) && few (y .rows)) ∷ [] in
-    late-then (lowest reasons) (λ _. made (withMerged a b (joined x y))) (late-lowest reasons refl) (λ _. late-made (withMerged a b (joined x y)))
+    let whole : Verdict Layout = made (withMerged a b (joined x y)) in
+    let removed : List Reason = 14 when (removesDense a d || removesDense b d) ∷ [] in
+    late-then (lowest reasons) (λ _. whole then λ l. unlessDenseRemoved a b l) (late-lowest reasons refl)
+    (λ _. late-then whole (λ l. unlessDenseRemoved a b l) (late-made (withMerged a b (joined x y)))
+    (λ l. late-then (lowest removed) (λ _. given l) (late-lowest removed refl) (λ _. tt)))
 
 late-union : (a b : Layout) → Late (union a b)
 unfolding union

@@ -5,6 +5,7 @@
 --     RowsRead, Sections, Encoded, Walked, ReadBack                the record of a layout, and the layout of a record
 --     Ranges, Indices                                              every index of a shape, in order
 --     Before, Alike, Held, Finding, Found, Counting                what is held, found and counted
+--     Refusing, DenseRemoved                                       which numbers are given, and that 14 never is
 --     Made, Once, Lowering, Listed, Unions, Low                    the union of two sound layouts by plain cases
 --     Determined                                                   two outcomes that a contract allows are equal
 --     WorkedByHand                                                 the table
@@ -34,6 +35,8 @@ pub mod Held
 pub mod Finding
 pub mod Found
 pub mod Counting
+pub mod Refusing
+pub mod DenseRemoved
 pub mod Made
 pub mod Once
 pub mod Lowering

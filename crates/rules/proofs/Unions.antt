@@ -12,13 +12,14 @@ use Rattle.rules.specs.Refusals.{given, refused, _then_, _when_, lowest}
 use Rattle.rules.specs.Layout.{Layout, rank, isDense, few, withDeps, made}
 use Rattle.rules.specs.CountsAndForms.{toDense}
 use Rattle.rules.specs.Removal.{listsRow}
-use Rattle.rules.specs.Pairs.{withMerged, alikeDiagonals, lowered, lowerD, barsExpansion}
+use Rattle.rules.specs.Pairs.{withMerged, alikeDiagonals, lowered, lowerD, barsExpansion, unlessDenseRemoved}
 use Rattle.rules.specs.Union.{joined, unionOfRows, union}
 use Rattle.rules.proofs.Same.{neither, true-not-false, same-true}
 use Rattle.rules.proofs.Sets.{each-nil, each-append}
 use Rattle.rules.proofs.Sorting.{sorted-each, sorted-sorted}
 use Rattle.rules.proofs.Merging.{merge-length-left, merge-length-right}
 use Rattle.rules.proofs.Soundness.{Sound}
+use Rattle.rules.proofs.DenseRemoved.{none-removed, before-removed}
 use Rattle.rules.proofs.Once.{Once, once-distinct}
 use Rattle.rules.proofs.Made.{fewOr, Formed, sound-formed, formed-made, made-sound, formed-merged}
 use Rattle.rules.proofs.Lowering.{Lowered, lowered-is}
@@ -160,8 +161,8 @@ module _ {a b : Layout} (p : Sound a) (q : Sound b) (e : same (a .shape) (b .sha
       right = lowered-is (q .form) (eqb-false (b .kind) 0 (plain .1)) (omega arith) (free .1) (bare .1)
 
       judged : (t : Bool) → few (x .rows) && few (y .rows) ≡ t →
-          (lowest (13 when not t ∷ []) then λ _. made (withMerged a b (joined x y))) ≡ fewOr (withMerged a b (joined x y))
-      judged true k = formed-made (formed-merged p q (ap length (left .shape-is)) (ap length (left .shape-is) ∙ ranks) (joined-formed p (same-true e) (omega arith) left right))
+          (lowest (13 when not t ∷ []) then λ _. made (withMerged a b (joined x y)) then λ l. unlessDenseRemoved a b l) ≡ fewOr (withMerged a b (joined x y))
+      judged true k = none-removed a b f (made (withMerged a b (joined x y))) ∙ formed-made (formed-merged p q (ap length (left .shape-is)) (ap length (left .shape-is) ∙ ranks) (joined-formed p (same-true e) (omega arith) left right))
       judged false k = rw (few-joined (left .rows-once) (right .rows-once) k)
 
 -- ---- what is given
@@ -177,12 +178,12 @@ union-made a b {l} e = whole (same (a .shape) (b .shape)) (isDense a || isDense 
     rows : Layout
     rows = joined (lowered a d) (lowered b d)
 
-    by-rows : (s t u : Bool) → (lowest (11 when s ∷ 12 when t ∷ 13 when u ∷ []) then λ _. made (withMerged a b rows)) ≡ given l →
+    by-rows : (s t u : Bool) → (lowest (11 when s ∷ 12 when t ∷ 13 when u ∷ []) then λ _. made (withMerged a b rows) then λ x. unlessDenseRemoved a b x) ≡ given l →
         (x : Layout) × (made (withMerged a b x) ≡ given l)
     by-rows true t u e = absurd (never e)
     by-rows false true u e = absurd (never e)
     by-rows false false true e = absurd (never e)
-    by-rows false false false e = (rows, e)
+    by-rows false false false e = (rows, before-removed a b (made (withMerged a b rows)) e)
 
     whole : (s t u : Bool) → (lowest (6 when not s ∷ []) then λ _. if t (made (withMerged a b (toDense a))) (if u (made (withMerged a b a)) (unionOfRows a b))) ≡ given l →
         (x : Layout) × (made (withMerged a b x) ≡ given l)

@@ -70,6 +70,9 @@ pub record Table : Type 0 where
   -- a lowered union: dependencies are merged as they are, not expanded
   pub unexpanded : union (layout 2 1 (two 2 2) ((1 ∷ []) ∷ []) ((1 ∷ 0 ∷ 7 ∷ []) ∷ [])) (layout 2 0 (two 2 2) (two 1 0 ∷ []) [])
       ≡ given (layout 2 0 (two 2 2) (two 1 0 ∷ two 1 1 ∷ []) ((1 ∷ 0 ∷ 7 ∷ []) ∷ []))
+  -- a dense layout handed to removal is 14, where nothing lower holds
+  pub dense-removed : unionOfRows (dense (2 ∷ [])) (layout 2 0 (2 ∷ []) ((1 ∷ []) ∷ []) []) ≡ refused 14
+  pub row-outside-first : unionOfRows (dense (2 ∷ [])) (layout 2 0 (2 ∷ []) ((2 ∷ []) ∷ []) []) ≡ refused 12
 
 pub table : Table
 unfolding all any keep gather none from product sum largest same sameRows allBelow with fitTo part
@@ -96,4 +99,6 @@ table = record {
   p9-lookup = refl;
   unfiltered = refl;
   unexpanded = refl;
+  dense-removed = refl;
+  row-outside-first = refl;
 }

@@ -1,4 +1,4 @@
--- Module 7, removal: dense axes of a sparse layout become listed ones. 14 is never reached: a dense layout is not handed to it.
+-- Module 7, removal: dense axes of a sparse layout become listed ones.
 use mathlib.Core.Bool.{Bool, not, _&&_}
 use mathlib.Core.List.{List, [], _∷_, _++_, map}
 use Prim.Native.Nat.{ℕ, _-_}
@@ -6,7 +6,7 @@ use lib.ListN.{take, drop}
 use lib.Dec.{ltb}
 use Rattle.rules.specs.Lists.{none, gather, below}
 use Rattle.rules.specs.RowsInOrder.{sortedFew}
-use Rattle.rules.specs.Layout.{Layout, rank}
+use Rattle.rules.specs.Layout.{Layout, rank, isDense}
 use Rattle.rules.specs.Dependencies.{onIndex}
 
 -- every index of a shape, in order
@@ -34,6 +34,10 @@ removedDeps l new deps =
 -- 12: it lists a row while the new D is above 0
 unfoldable pub listsRow : Layout → ℕ → Bool
 listsRow l new = ltb 0 new && ltb new (l .dense) && not (none (removedRows l new))
+
+-- 14: the layout is dense, and its D is to be lowered
+abbrev pub removesDense : Layout → ℕ → Bool
+removesDense l new = isDense l && ltb new (l .dense)
 
 unfoldable pub removeDenseAxes : Layout → ℕ → Layout
 removeDenseAxes l new = record {
