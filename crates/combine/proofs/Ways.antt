@@ -7,12 +7,12 @@ use lib.Dec.{eqb}
 use Rattle.rules.specs.Lists.{if, same}
 use Rattle.rules.specs.Refusals.{refused}
 use Rattle.rules.specs.Layout.{Layout, isDense, isDiagonal}
+use Rattle.rules.specs.Soundness.{Sound}
 use Rattle.rules.specs.CountsAndForms.{toDense}
 use Rattle.rules.specs.Removal.{listsRow}
 use Rattle.rules.specs.Pairs.{withMerged, alikeDiagonals, lowerD, barsExpansion}
 use Rattle.rules.specs.Union.{union}
 use Rattle.rules.proofs.Same.{both-true, neither}
-use Rattle.rules.proofs.Soundness.{Sound}
 use Rattle.rules.proofs.Made.{fewOr}
 use Rattle.rules.proofs.Unions.{union-dense, union-diagonals, union-bars, union-lists, union-rows}
 use Rattle.combine.specs.declared.Way.{Way}

@@ -7,8 +7,7 @@ use lib.IntN.{ℤ}
 use lib.ListN.{length, getD}
 use Rattle.rules.specs.Buffers.{part}
 use Rattle.rules.specs.Layout.{Layout}
-use Rattle.rules.proofs.Soundness.{Sound}
-use Rattle.rules.proofs.Low.{DepsLow}
+use Rattle.rules.specs.Soundness.{Sound, DepsLow}
 use Rattle.cells.specs.View.{view}
 use Rattle.tables.specs.Tables.{tableAt}
 

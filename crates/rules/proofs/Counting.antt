@@ -7,6 +7,7 @@ use lib.ListN.{length, length-map}
 use Rattle.rules.specs.Lists.{keep, allBelow}
 use Rattle.rules.specs.RowsInOrder.{cmpRows, isLess, increasing}
 use Rattle.rules.specs.Layout.{Layout, rank}
+use Rattle.rules.specs.Soundness.{WellFormed}
 use Rattle.rules.specs.Dependencies.{held}
 use Rattle.rules.specs.Endings.{found}
 use Rattle.rules.specs.Lookup.{readIndex, lookup}
@@ -14,7 +15,6 @@ use Rattle.rules.specs.CountsAndForms.{nnz}
 use Rattle.rules.specs.Removal.{positions}
 use Rattle.rules.proofs.Sets.{increasing-true}
 use Rattle.rules.proofs.Sorting.{sorted-id}
-use Rattle.rules.proofs.Soundness.{WellFormed}
 use Rattle.rules.proofs.Ranges.{from-length}
 use Rattle.rules.proofs.Indices.{positions-length}
 use Rattle.rules.proofs.Before.{keep-both, count-before}

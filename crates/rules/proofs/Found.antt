@@ -11,6 +11,7 @@ use lib.Seq.{take-all}
 use Rattle.rules.specs.Lists.{all, below, allBelow}
 use Rattle.rules.specs.RowsInOrder.{increasing}
 use Rattle.rules.specs.Layout.{Layout, rank, width, alike}
+use Rattle.rules.specs.Soundness.{WellFormed}
 use Rattle.rules.specs.Dependencies.{held}
 use Rattle.rules.specs.Endings.{found}
 use Rattle.rules.specs.Positions.{ravelIndex}
@@ -21,7 +22,6 @@ use Rattle.rules.proofs.Sets.{in-same, among-in, in-among, increasing-t
 use Rattle.rules.proofs.Sorting.{sorted-id}
 use Rattle.rules.proofs.Keeping.{keep-passes}
 use Rattle.rules.proofs.Places.{in-at}
-use Rattle.rules.proofs.Soundness.{WellFormed}
 use Rattle.rules.proofs.Ranges.{from-length, from-at, map-at}
 use Rattle.rules.proofs.Indices.{positions-length, ravel-below, positions-ravel}
 use Rattle.rules.proofs.Alike.{all-replicate, alike-all}

@@ -9,16 +9,17 @@ use lib.Dec.{ltb}
 use lib.ListN.{length, getD, replicate, length-replicate, getD-replicate}
 use lib.Seq.{take-length}
 use Rattle.rules.specs.Lists.{keep, below, allBelow}
-use Rattle.rules.specs.RowsInOrder.{among, sorted}
+use Rattle.rules.specs.RowsInOrder.{among, sorted, In, Increasing}
 use Rattle.rules.specs.Layout.{Layout, rank, alike}
+use Rattle.rules.specs.Soundness.{WellFormed}
 use Rattle.rules.specs.Dependencies.{held, onDiagonal}
 use Rattle.rules.specs.Removal.{positions}
 use Rattle.rules.proofs.Same.{both-true}
-use Rattle.rules.proofs.Sets.{In, in-same, among-in, in-among, Subset, Increasing, same-rows}
+use Rattle.rules.proofs.Sets.{in-same, among-in, in-among, Subset, same-rows}
 use Rattle.rules.proofs.Sorting.{sorted-increasing, sorted-has, sorted-only}
 use Rattle.rules.proofs.Keeping.{keep-only, keep-passes, keep-has, keep-increasing}
 use Rattle.rules.proofs.Tests.{true-both}
-use Rattle.rules.proofs.Soundness.{WellFormed, OneKind, is-dense, is-diagonal, is-sparse, one-kind, whole-width}
+use Rattle.rules.proofs.Soundness.{OneKind, is-dense, is-diagonal, is-sparse, one-kind, whole-width}
 use Rattle.rules.proofs.Ranges.{from-only, from-has, map-increasing}
 use Rattle.rules.proofs.Indices.{positions-increasing, positions-only, positions-has}
 use Rattle.rules.proofs.Before.{keep-all}

@@ -9,26 +9,23 @@ use borrow.Author.Tests.{lt-ltb, le-ltb, ltb-false, not-false}
 use lib.Dec.{ltb}
 use lib.ListN.{length, getD, drop, replicate, length-append, length-drop, length-replicate}
 use Rattle.rules.specs.Lists.{none, below, allBelow}
-use Rattle.rules.specs.RowsInOrder.{sorted}
+use Rattle.rules.specs.RowsInOrder.{sorted, In, Each}
 use Rattle.rules.specs.Layout.{Layout, rank, width, few}
-use Rattle.rules.specs.Removal.{positions, removedRows, listsRow, removeDenseAxes}
+use Rattle.rules.specs.Soundness.{WellFormed}
+use Rattle.rules.specs.Removal.{positions, fullRows, removedRows, listsRow, removeDenseAxes}
 use Rattle.rules.specs.Pairs.{lowered, barsExpansion, expanded}
 use Rattle.rules.proofs.Order.{ComparedNumbers, under, even, above, compareNumbers}
 use Rattle.rules.proofs.Same.{both-true}
-use Rattle.rules.proofs.Sets.{In, Each, each-nil}
+use Rattle.rules.proofs.Sets.{each-nil}
 use Rattle.rules.proofs.Tests.{true-both, none-true}
-use Rattle.rules.proofs.Soundness.{WellFormed, OneKind, is-dense, is-diagonal, is-sparse, one-kind}
+use Rattle.rules.proofs.Soundness.{OneKind, is-dense, is-diagonal, is-sparse, one-kind}
 use Rattle.rules.proofs.Ranges.{from-only, map-increasing}
 use Rattle.rules.proofs.Indices.{positions-increasing, positions-only}
 use Rattle.rules.proofs.Held.{diagonalRows, diagonal-rank, diagonal-extents}
 use Rattle.rules.proofs.Alike.{alike-all, replicate-below, replicate-less}
-use Rattle.rules.proofs.Once.{Once, once-nil, increasing-once, distinct-once, once-distinct, crossed, crossed-only, crossed-once}
+use Rattle.rules.proofs.Once.{Once, once-nil, increasing-once, distinct-once, once-distinct, crossed-only, crossed-once}
 
 -- ---- what is made, by cases
-
--- each row with every index of the dense axes behind it
-abbrev pub fullRows : Layout → List (List ℕ)
-fullRows l = crossed (l .rows) (positions (drop (width l) (l .shape)))
 
 module _ (l : Layout) where
   -- a diagonal that may expand has no dense axis

@@ -8,8 +8,9 @@ use native.Mathlib.Omega.{arith}
 use lib.ListN.{length, length-append, length-map}
 use lib.Seq.{take-at}
 use Rattle.rules.specs.Lists.{gather}
-use Rattle.rules.specs.RowsInOrder.{sorted}
-use Rattle.rules.proofs.Sets.{In, in-same, Each, each-head, each-tail, Increasing}
+use Rattle.rules.specs.RowsInOrder.{sorted, In, Each, Increasing}
+use Rattle.rules.specs.Removal.{crossed}
+use Rattle.rules.proofs.Sets.{in-same, each-head, each-tail}
 use Rattle.rules.proofs.Sorting.{insert-in, insert-length-most, insert-length-new, sorted-increasing, sorted-has, sorted-only, sorted-length, sorted-id}
 
 -- ---- no row comes again
@@ -44,10 +45,6 @@ append-once once-nil p f = p
 append-once (once-cons {t} n o) p f = once-cons (λ m. ⊎-elim n (each-head f) (List·Memᴰ·append-cases t m)) (append-once o p (each-tail f))
 
 -- ---- each row with each end behind it
-
--- the rows, each with every one of the ends behind it
-abbrev pub crossed : List (List ℕ) → List (List ℕ) → List (List ℕ)
-crossed rows ends = gather (λ r. map (λ t. r ++ t) ends) rows
 
 -- such a row: a row and an end
 pub record Crossed (x : List ℕ) (rows ends : List (List ℕ)) : Type 0 where

@@ -10,6 +10,7 @@ use Rattle.rules.specs.Lists.{if, same}
 use Rattle.rules.specs.RowsInOrder.{sorted, merge}
 use Rattle.rules.specs.Refusals.{given, refused, _then_, _when_, lowest}
 use Rattle.rules.specs.Layout.{Layout, rank, isDense, few, withDeps, made}
+use Rattle.rules.specs.Soundness.{Sound}
 use Rattle.rules.specs.CountsAndForms.{toDense}
 use Rattle.rules.specs.Removal.{listsRow}
 use Rattle.rules.specs.Pairs.{withMerged, alikeDiagonals, lowered, lowerD, barsExpansion, unlessDenseRemoved}
@@ -18,7 +19,6 @@ use Rattle.rules.proofs.Same.{neither, true-not-false, same-true}
 use Rattle.rules.proofs.Sets.{each-nil, each-append}
 use Rattle.rules.proofs.Sorting.{sorted-each, sorted-sorted}
 use Rattle.rules.proofs.Merging.{merge-length-left, merge-length-right}
-use Rattle.rules.proofs.Soundness.{Sound}
 use Rattle.rules.proofs.DenseRemoved.{none-removed, before-removed}
 use Rattle.rules.proofs.Once.{Once, once-distinct}
 use Rattle.rules.proofs.Made.{fewOr, Formed, sound-formed, formed-made, made-sound, formed-merged}

@@ -5,6 +5,7 @@ pub mod Buffers
 pub mod RowsInOrder
 pub mod Refusals
 pub mod Layout
+pub mod Soundness
 pub mod Record
 pub mod Arguments
 pub mod Endings

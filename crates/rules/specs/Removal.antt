@@ -6,7 +6,7 @@ use lib.ListN.{take, drop}
 use lib.Dec.{ltb}
 use Rattle.rules.specs.Lists.{none, gather, below}
 use Rattle.rules.specs.RowsInOrder.{sortedFew}
-use Rattle.rules.specs.Layout.{Layout, rank, isDense}
+use Rattle.rules.specs.Layout.{Layout, rank, width, isDense}
 use Rattle.rules.specs.Dependencies.{onIndex}
 
 -- every index of a shape, in order
@@ -22,9 +22,17 @@ keptAxes l new = rank l - (l .dense - new)
 abbrev pub lastPositions : Layout → ℕ → List (List ℕ)
 lastPositions l new = positions (drop (keptAxes l new) (l .shape))
 
+-- the rows, each with every one of the ends behind it
+abbrev pub crossed : List (List ℕ) → List (List ℕ) → List (List ℕ)
+crossed rows ends = gather (λ r. map (λ t. r ++ t) ends) rows
+
 -- each row gets every value on the last axes
 unfoldable pub removedRows : Layout → ℕ → List (List ℕ)
-removedRows l new = gather (λ r. map (λ t. r ++ t) (lastPositions l new)) (l .rows)
+removedRows l new = crossed (l .rows) (lastPositions l new)
+
+-- each row with every index of the dense axes behind it
+abbrev pub fullRows : Layout → List (List ℕ)
+fullRows l = crossed (l .rows) (positions (drop (width l) (l .shape)))
 
 -- and so does each dependency
 unfoldable pub removedDeps : Layout → ℕ → List (List ℕ) → List (List ℕ)
