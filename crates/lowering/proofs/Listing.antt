@@ -16,7 +16,7 @@ use Rattle.rules.specs.Pairs.{lowered}
 use Rattle.rules.proofs.Soundness.{OneKind, is-dense, is-diagonal, is-sparse, one-kind}
 use Rattle.rules.proofs.Sorting.{sorted-length}
 use Rattle.rules.proofs.Extents.{extent-limited}
-use Rattle.rules.proofs.Held.{diagonal-rank}
+use Rattle.rules.proofs.Holding.{diagonal-rank}
 use Rattle.rules.proofs.Lowering.{expands-dense, diagonal-made, same-made, full-made, none-made}
 use Rattle.cells.specs.View.{view}
 use Rattle.tables.specs.Tables.{tableAt, Only, Ready, SortAsked, Sorted}

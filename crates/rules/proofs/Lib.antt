@@ -4,7 +4,7 @@
 --     Tests, Soundness, Extents                                    what a sound layout is, part by part
 --     RowsRead, Sections, Encoded, Walked, ReadBack                the record of a layout, and the layout of a record
 --     Ranges, Indices                                              every index of a shape, in order
---     Before, Alike, Held, Finding, Found, Counting                what is held, found and counted
+--     Before, Alike, Finding, Holding, Found, Counting             what is held, found and counted
 --     Refusing, DenseRemoved                                       which numbers are given, and that 14 never is
 --     Made, Once, Lowering, Listed, Unions, Low                    the union of two sound layouts by plain cases
 --     Determined                                                   two outcomes that a contract allows are equal
@@ -31,8 +31,8 @@ pub mod Ranges
 pub mod Indices
 pub mod Before
 pub mod Alike
-pub mod Held
 pub mod Finding
+pub mod Holding
 pub mod Found
 pub mod Counting
 pub mod Refusing

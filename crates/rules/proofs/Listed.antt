@@ -13,7 +13,7 @@ use Rattle.rules.specs.Layout.{Layout, width}
 use Rattle.rules.specs.Removal.{positions, keptAxes, removedRows, listsRow, fullRows}
 use Rattle.rules.proofs.Ranges.{from-length}
 use Rattle.rules.proofs.Indices.{positions-length}
-use Rattle.rules.proofs.Held.{diagonalRows}
+use Rattle.rules.proofs.Holding.{diagonalRows}
 use Rattle.rules.proofs.Once.{crossed-length}
 
 -- ---- how many

@@ -21,7 +21,7 @@ use Rattle.rules.proofs.Tests.{true-both, none-true}
 use Rattle.rules.proofs.Soundness.{OneKind, is-dense, is-diagonal, is-sparse, one-kind}
 use Rattle.rules.proofs.Ranges.{from-only, map-increasing}
 use Rattle.rules.proofs.Indices.{positions-increasing, positions-only}
-use Rattle.rules.proofs.Held.{diagonalRows, diagonal-rank, diagonal-extents}
+use Rattle.rules.proofs.Holding.{diagonalRows, diagonal-rank, diagonal-extents}
 use Rattle.rules.proofs.Alike.{alike-all, replicate-below, replicate-less}
 use Rattle.rules.proofs.Once.{Once, once-nil, increasing-once, distinct-once, once-distinct, crossed-only, crossed-once}
 

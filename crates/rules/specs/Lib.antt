@@ -16,6 +16,7 @@ pub mod Lookup
 pub mod CountsAndForms
 pub mod Stretching
 pub mod Removal
+pub mod Holding
 pub mod Pairs
 pub mod Union
 pub mod Intersect
