@@ -1,12 +1,12 @@
 -- Which positions a layout holds, by its kind. Assumes nothing.
 use mathlib.Core.Path.{_≡_, refl, sym, _∙_}
 use mathlib.Core.Bool.{Bool, true, false, _&&_}
-use mathlib.Core.List.{List, map, List·Memᴰ, Memᴰ·map, Memᴰ·of-map}
-use Prim.Native.Nat.{ℕ, _<_, _≤_}
+use mathlib.Core.List.{List, [], _∷_, map, List·Memᴰ, Memᴰ·map, Memᴰ·of-map}
+use Prim.Native.Nat.{ℕ, zero, suc, _<_, _≤_}
 use native.Mathlib.Omega.{arith}
 use borrow.Author.Tests.{eqb-true, eq-eqb, lt-ltb}
-use lib.Dec.{eqb}
-use lib.ListN.{length, getD, take, replicate, length-replicate}
+use lib.Dec.{eqb, ltb}
+use lib.ListN.{length, getD, take, drop, replicate, length-drop, length-replicate}
 use lib.Seq.{take-length, take-all}
 use Rattle.rules.specs.Lists.{below, allBelow}
 use Rattle.rules.specs.RowsInOrder.{among, sorted, In, Increasing}
@@ -53,6 +53,22 @@ module _ {shape index : List ℕ} where
 pub in-position : (shape : List ℕ) {index : List ℕ} → In index (positions shape) → Position shape index
 in-position shape m = let h = positions-only shape m in record { size = h .0; inside = h .1 }
 
+-- components from k on are below the extents from k on
+drop-below : (index shape : List ℕ) (k : ℕ) → allBelow index shape ≡ true → allBelow (drop k index) (drop k shape) ≡ true
+unfolding allBelow
+drop-below index shape zero b = b
+drop-below [] shape (suc k) b = refl
+drop-below (c ∷ index) [] (suc k) b = below-none (drop k index)
+  where
+    below-none : (rest : List ℕ) → allBelow rest [] ≡ true
+    below-none [] = refl
+    below-none (c ∷ rest) = refl
+drop-below (c ∷ index) (e ∷ shape) (suc k) b = drop-below index shape k (both-true (ltb c e) (allBelow index shape) b .1)
+
+-- from any axis on, a position is one of the axes there
+pub position-behind : {shape index : List ℕ} → Position shape index → (k : ℕ) → Position (drop k shape) (drop k index)
+position-behind {shape} {index} p k = record { size = simp length-drop (omega arith); inside = drop-below index shape k (p .inside) }
+
 -- ---- what is held
 
 -- a test beside one that holds
@@ -80,6 +96,16 @@ module _ (l : Layout) (index : List ℕ) where
   pub holds-sparse : l .kind ≡ 2 → holds l index ≡ isPosition (l .shape) index && among (take (width l) index) (l .rows)
   unfolding holds
   holds-sparse k = rw k
+
+  -- what a sparse layout holds is a position, and its first R - D components are a row
+  pub sparse-true : l .kind ≡ 2 → holds l index ≡ true → Position (l .shape) index × In (take (width l) index) (l .rows)
+  sparse-true k h =
+      let on = both-true (isPosition (l .shape) index) (among (take (width l) index) (l .rows)) (sym (holds-sparse k) ∙ h) in
+      (position-true (l .shape) index (on .0), among-in (take (width l) index) (l .rows) (on .1))
+
+  -- such a position is held
+  pub true-sparse : l .kind ≡ 2 → Position (l .shape) index → In (take (width l) index) (l .rows) → holds l index ≡ true
+  true-sparse k p m = holds-sparse k ∙ true-both (true-position p) (in-among m)
 
 -- ---- layouts whose positions are listed whole
 

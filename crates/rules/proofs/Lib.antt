@@ -6,7 +6,7 @@
 --     Ranges, Indices                                              every index of a shape, in order
 --     Before, Alike, Finding, Holding, Found, Counting             what is held, found and counted
 --     Refusing, DenseRemoved                                       which numbers are given, and that 14 never is
---     Made, Once, Lowering, Listed, Unions, Low                    the union of two sound layouts by plain cases
+--     Made, Once, Lowering, Listed, Unions, UnionHolds, Low        the union of two sound layouts by plain cases, and what it holds
 --     Determined                                                   two outcomes that a contract allows are equal
 --     WorkedByHand                                                 the table
 pub mod Order
@@ -42,6 +42,7 @@ pub mod Once
 pub mod Lowering
 pub mod Listed
 pub mod Unions
+pub mod UnionHolds
 pub mod Low
 pub mod Determined
 pub mod WorkedByHand

@@ -22,7 +22,7 @@ use Rattle.rules.proofs.Sorting.{sorted-each}
 use Rattle.rules.proofs.Extents.{extent-limited}
 use Rattle.rules.proofs.Made.{made-sound}
 use Rattle.rules.proofs.Lowering.{Lowered}
-use Rattle.rules.proofs.Unions.{union-made}
+use Rattle.rules.proofs.Unions.{union-gives}
 
 -- ---- rows
 
@@ -67,5 +67,5 @@ merged-deps-low l p q = record { states-low = merged-low (p .states-low) (q .sta
 -- and so are those of their union
 pub union-low : {a b l : Layout} → DepsLow a → DepsLow b → union a b ≡ given l → DepsLow l
 union-low {a} {b} p q e =
-    let m = union-made a b e in
-    subst DepsLow (made-sound (m .1) .0) (merged-deps-low (m .0) p q)
+    let g = union-gives a b e in
+    subst DepsLow (made-sound (g .was-made) .0) (merged-deps-low (g .whole) p q)
