@@ -1,10 +1,9 @@
 -- Positions held are as many as `nnz` says, and a lookup counts those before. Assumes nothing.
 use mathlib.Core.Path.{_≡_, sym, _∙_}
-use mathlib.Core.Bool.{true, _&&_}
+use mathlib.Core.Bool.{true}
 use mathlib.Core.List.{List}
 use Prim.Native.Nat.{ℕ}
 use lib.ListN.{length, length-map}
-use Rattle.rules.specs.Lists.{keep}
 use Rattle.rules.specs.RowsInOrder.{cmpRows, isLess, increasing}
 use Rattle.rules.specs.Layout.{Layout, rank}
 use Rattle.rules.specs.Soundness.{WellFormed}
@@ -12,7 +11,7 @@ use Rattle.rules.specs.Endings.{found}
 use Rattle.rules.specs.Lookup.{readIndex, lookup}
 use Rattle.rules.specs.CountsAndForms.{nnz}
 use Rattle.rules.specs.Removal.{positions}
-use Rattle.rules.specs.Holding.{holds, heldPositions}
+use Rattle.rules.specs.Holding.{holds, heldPositions, heldBefore}
 use Rattle.rules.proofs.Sets.{increasing-true}
 use Rattle.rules.proofs.Sorting.{sorted-id}
 use Rattle.rules.proofs.Ranges.{from-length}
@@ -37,10 +36,6 @@ module _ {l : Layout} (w : WellFormed l) where
   rows-are-held k d i = sym (sparse-positions w k d ∙ sorted-id (increasing-true (l .rows) i))
 
 -- ---- how many before
-
--- how many positions before an index are held
-abbrev pub heldBefore : Layout → List ℕ → ℕ
-heldBefore l index = length (keep (λ q. holds l q && isLess (cmpRows q index)) (positions (l .shape)))
 
 module _ {l : Layout} (w : WellFormed l) (whole : Whole l) (ordered : increasing (l .rows) ≡ true) where
   -- a lookup gives how many positions are held before the index as it is read

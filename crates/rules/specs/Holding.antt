@@ -5,7 +5,7 @@ use Prim.Native.Nat.{ℕ}
 use lib.ListN.{length, take}
 use lib.Dec.{eqb}
 use Rattle.rules.specs.Lists.{if, keep, allBelow}
-use Rattle.rules.specs.RowsInOrder.{among}
+use Rattle.rules.specs.RowsInOrder.{cmpRows, isLess, among}
 use Rattle.rules.specs.Layout.{Layout, width, isDense, isDiagonal, alike}
 use Rattle.rules.specs.Removal.{positions}
 
@@ -22,3 +22,7 @@ holds l index =
 -- the positions held, in order
 abbrev pub heldPositions : Layout → List (List ℕ)
 heldPositions l = keep (holds l) (positions (l .shape))
+
+-- how many positions before an index are held
+abbrev pub heldBefore : Layout → List ℕ → ℕ
+heldBefore l index = length (keep (λ q. holds l q && isLess (cmpRows q index)) (positions (l .shape)))
