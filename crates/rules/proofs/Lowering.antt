@@ -1,4 +1,4 @@
--- What `union` and `intersect` make of a layout that is not dense: its rows with the smaller D. Assumes nothing.
+-- What `union` and `intersect` make of a layout that is not dense: its rows with the smaller D, which hold the same. Assumes nothing.
 use mathlib.Core.Path.{_≡_, refl, sym, ap, _∙_}
 use mathlib.Core.Bool.{true, false}
 use mathlib.Core.List.{List, [], _∷_, _++_, List·Memᴰ, List·Memᴰ·not-nil, Memᴰ·of-map}
@@ -81,27 +81,7 @@ module _ (l : Layout) where
   unfolding removeDenseAxes
   none-made k h g e = rw (lowered-removed l k h) (removed-none l g h e)
 
--- ---- the layout that is made
-
--- x is sparse with D as asked and the shape of l; its rows have R - D numbers below the extents, and none comes again; it holds
--- what l does
-pub record Lowered (l x : Layout) (d : ℕ) : Type 0 where
-  pub kind-is : x .kind ≡ 2
-  pub dense-is : x .dense ≡ d
-  pub shape-is : x .shape ≡ l .shape
-  pub row-lengths : Each (λ r. length r ≡ rank l - d) (x .rows)
-  pub rows-below : Each (λ r. allBelow r (l .shape) ≡ true) (x .rows)
-  pub rows-once : Once (x .rows)
-  pub holds-same : (index : List ℕ) → holds x index ≡ holds l index
-
--- numbers below the first extents, and behind them numbers below the next ones
-append-below : (r t shape : List ℕ) → allBelow r shape ≡ true → allBelow t (drop (length r) shape) ≡ true → allBelow (r ++ t) shape ≡ true
-unfolding allBelow
-append-below [] t shape e f = f
-append-below (c ∷ r) t [] e f = refl
-append-below (c ∷ r) t (n ∷ shape) e f =
-    let h = both-true (ltb c n) (allBelow r shape) e in
-    true-both (h .0) (append-below r t shape (h .1) f)
+-- ---- it holds what was held
 
 module _ {l : Layout} (w : WellFormed l) where
   -- an expanded diagonal holds what the diagonal does
@@ -118,25 +98,6 @@ module _ {l : Layout} (w : WellFormed l) where
       back h =
           let p = holds-position l index h in
           true-sparse (expanded l) index refl p (rw (whole-front w z p, ← diagonal-positions w k z) (holds-in l h))
-
-  -- a diagonal with no dense axis expands so
-  expanded-lowered : l .kind ≡ 1 → l .dense ≡ 0 → Lowered l (expanded l) 0
-  unfolding expanded
-  expanded-lowered k z = record {
-    kind-is = refl;
-    dense-is = z;
-    shape-is = refl;
-    row-lengths = λ r m. rw sub-zero (sym (ap length (of r m .2)) ∙ length-replicate (rank l) (of r m .0));
-    rows-below = λ r m. rw (← of r m .2) (below-extents (of r m .0) (omega (arith, from-only 0 (getD (l .shape) 0 0) (of r m .1))));
-    rows-once = increasing-once (map-increasing (λ i. replicate (rank l) i) (replicate-less (rank l) (diagonal-rank w k z)) 0 (getD (l .shape) 0 0));
-    holds-same = expanded-holds k z;
-  }
-    where
-      of : (r : List ℕ) → In r (diagonalRows l) → (i : ℕ) × List·Memᴰ i (below (getD (l .shape) 0 0)) × (replicate (rank l) i ≡ r)
-      of r m = Memᴰ·of-map (λ i. replicate (rank l) i) (below (getD (l .shape) 0 0)) m
-
-      below-extents : (i : ℕ) → i < getD (l .shape) 0 0 → allBelow (replicate (rank l) i) (l .shape) ≡ true
-      below-extents i = replicate-below (rank l) (getD (l .shape) 0 0) i (l .shape) (alike-all (l .shape) (diagonal-extents w k z))
 
   -- a held position: its row, and from any axis on one of the indices of the axes there
   behind-row : {index : List ℕ} (k : ℕ) → Position (l .shape) index → In (take (width l) index) (l .rows) →
@@ -177,6 +138,48 @@ module _ {l : Layout} (w : WellFormed l) where
           let on = sparse-true l index k h in
           absurd (List·Memᴰ·not-nil (rw e at (behind-row (keptAxes l d) (on .0) (on .1))))
 
+-- ---- the layout that is made
+
+-- x is sparse with D as asked and the shape of l, and holds what l does; its rows have R - D numbers below the extents, and none
+-- comes again
+pub record Lowered (l x : Layout) (d : ℕ) : Type 0 where
+  pub kind-is : x .kind ≡ 2
+  pub dense-is : x .dense ≡ d
+  pub shape-is : x .shape ≡ l .shape
+  pub row-lengths : Each (λ r. length r ≡ rank l - d) (x .rows)
+  pub rows-below : Each (λ r. allBelow r (l .shape) ≡ true) (x .rows)
+  pub rows-once : Once (x .rows)
+  pub holds-same : (index : List ℕ) → holds x index ≡ holds l index
+
+-- numbers below the first extents, and behind them numbers below the next ones
+append-below : (r t shape : List ℕ) → allBelow r shape ≡ true → allBelow t (drop (length r) shape) ≡ true → allBelow (r ++ t) shape ≡ true
+unfolding allBelow
+append-below [] t shape e f = f
+append-below (c ∷ r) t [] e f = refl
+append-below (c ∷ r) t (n ∷ shape) e f =
+    let h = both-true (ltb c n) (allBelow r shape) e in
+    true-both (h .0) (append-below r t shape (h .1) f)
+
+module _ {l : Layout} (w : WellFormed l) where
+  -- a diagonal with no dense axis expands so
+  expanded-lowered : l .kind ≡ 1 → l .dense ≡ 0 → Lowered l (expanded l) 0
+  unfolding expanded
+  expanded-lowered k z = record {
+    kind-is = refl;
+    dense-is = z;
+    shape-is = refl;
+    row-lengths = λ r m. rw sub-zero (sym (ap length (of r m .2)) ∙ length-replicate (rank l) (of r m .0));
+    rows-below = λ r m. rw (← of r m .2) (below-extents (of r m .0) (omega (arith, from-only 0 (getD (l .shape) 0 0) (of r m .1))));
+    rows-once = increasing-once (map-increasing (λ i. replicate (rank l) i) (replicate-less (rank l) (diagonal-rank w k z)) 0 (getD (l .shape) 0 0));
+    holds-same = expanded-holds w k z;
+  }
+    where
+      of : (r : List ℕ) → In r (diagonalRows l) → (i : ℕ) × List·Memᴰ i (below (getD (l .shape) 0 0)) × (replicate (rank l) i ≡ r)
+      of r m = Memᴰ·of-map (λ i. replicate (rank l) i) (below (getD (l .shape) 0 0)) m
+
+      below-extents : (i : ℕ) → i < getD (l .shape) 0 0 → allBelow (replicate (rank l) i) (l .shape) ≡ true
+      below-extents i = replicate-below (rank l) (getD (l .shape) 0 0) i (l .shape) (alike-all (l .shape) (diagonal-extents w k z))
+
   -- a sparse layout is so with the D that it has
   sparse-lowered : l .kind ≡ 2 → Lowered l l (l .dense)
   sparse-lowered k = record {
@@ -199,7 +202,7 @@ module _ {l : Layout} (w : WellFormed l) where
     row-lengths = rw (removed-all l) sizes;
     rows-below = rw (removed-all l) inside;
     rows-once = rw (removed-all l) (crossed-once (width l) (w .row-lengths) (distinct-once (l .rows) (w .rows-distinct)) (increasing-once (positions-increasing (drop (width l) (l .shape)))));
-    holds-same = full-holds k;
+    holds-same = full-holds w k;
   }
     where
       sizes : Each (λ r. length r ≡ rank l - 0) (fullRows l)
@@ -226,7 +229,7 @@ module _ {l : Layout} (w : WellFormed l) where
     row-lengths = rw e (each-nil _);
     rows-below = rw e (each-nil _);
     rows-once = rw e once-nil;
-    holds-same = bare-holds d k e;
+    holds-same = bare-holds w d k e;
   }
 
   -- a layout that is not dense is lowered so, if nothing bars it
