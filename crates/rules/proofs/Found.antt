@@ -85,7 +85,7 @@ module _ {l : Layout} (w : WellFormed l) (index : List ℕ) {p : ℕ} (n : lengt
   sparse-found k d i =
       let h = sparse-is k in
       let rows : heldPositions l ≡ l .rows = sparse-positions w k d ∙ sorted-id (increasing-true (l .rows) i) in
-      record { within = rw rows (h .0); is = rw rows (h .1 ∙ whole-front w d found-position) }
+      record { within = rw rows (h .0); is = rw rows (h .1 ∙ whole-front l d found-position) }
 
 -- what is found is the index as it is read, at its place among the positions held
 pub found-at : {l : Layout} → WellFormed l → Whole l → increasing (l .rows) ≡ true → (index : List ℕ) {p : ℕ} → length index ≡ rank l →
@@ -131,7 +131,7 @@ holds-found {l} w flat index h = by (one-kind w)
     by (is-dense k) = (ravelIndex index (l .shape), lookup-below l index (q .inside) ∙ place-dense l index index k)
     by (is-diagonal k) =
         let on = both-true (isPosition (l .shape) index) (alike (take (width l) index)) (sym (holds-diagonal l index k) ∙ h) in
-        let equal : alike index ≡ true = rw (whole-front w (flat k) q) at (on .1) in
+        let equal : alike index ≡ true = rw (whole-front l (flat k) q) at (on .1) in
         (getD index 0 0, lookup-below l index (q .inside) ∙ place-diagonal l index index k ∙ rw (alike-all index equal))
     by (is-sparse k) =
         let on = both-true (isPosition (l .shape) index) (among (take (width l) index) (l .rows)) (sym (holds-sparse l index k) ∙ h) in

@@ -125,8 +125,8 @@ no-dense-whole {l} w d = by (one-kind w)
     by (is-sparse k) = whole-sparse k d
 
 -- with no dense axis the first R - D components are all of them
-pub whole-front : {l : Layout} → WellFormed l → l .dense ≡ 0 → {index : List ℕ} → Position (l .shape) index → take (width l) index ≡ index
-whole-front {l} w d {index} p = take-all (width l) index (omega arith)
+pub whole-front : (l : Layout) → l .dense ≡ 0 → {index : List ℕ} → Position (l .shape) index → take (width l) index ≡ index
+whole-front l d {index} p = take-all (width l) index (omega arith)
 
 module _ {l : Layout} (w : WellFormed l) (k : l .kind ≡ 1) (d : l .dense ≡ 0) where
   -- a diagonal layout with no dense axis has at least one axis
@@ -160,8 +160,8 @@ holds-held {l} w (whole-diagonal k d) {index} p =
     let axes = diagonal-rank w k d in
     let first = first-below index (l .shape) (omega arith) axes (p .inside) in
     holds-diagonal l index k
-    ∙ (rw (true-position p, whole-front w d p, held-diagonal l index k, lt-ltb (getD index 0 0) (getD (l .shape) 0 0) first) (sym (and-true (alike index))))
-holds-held {l} w (whole-sparse k d) {index} p = holds-sparse l index k ∙ (rw (true-position p, whole-front w d p)) ∙ sym (held-sparse l index k)
+    ∙ (rw (true-position p, whole-front l d p, held-diagonal l index k, lt-ltb (getD index 0 0) (getD (l .shape) 0 0) first) (sym (and-true (alike index))))
+holds-held {l} w (whole-sparse k d) {index} p = holds-sparse l index k ∙ (rw (true-position p, whole-front l d p)) ∙ sym (held-sparse l index k)
 
 -- ---- the positions held
 
@@ -187,16 +187,14 @@ module _ {l : Layout} (w : WellFormed l) (k : l .kind ≡ 2) (d : l .dense ≡ 0
   pub sparse-positions : heldPositions l ≡ sorted (l .rows)
   sparse-positions = same-rows (positions-held-increase l) (sorted-increasing (l .rows)) listed found
     where
-      held-row : {q : List ℕ} → Position (l .shape) q → holds l q ≡ among q (l .rows)
-      held-row {q} p = holds-sparse l q k ∙ (rw (true-position p, whole-front w d p))
-
       listed : Subset (heldPositions l) (sorted (l .rows))
-      listed q m = let h = in-holds l m in sorted-has (among-in q (l .rows) (sym (held-row (holds-position l q h)) ∙ h))
+      listed q m = let on = sparse-true l q k (in-holds l m) in sorted-has (in-same (sym (whole-front l d (on .0))) (on .1))
 
       found : Subset (sorted (l .rows)) (heldPositions l)
       found r m =
           let n = sorted-only (l .rows) m in
-          holds-in l (held-row (record { size = w .row-lengths r n ∙ whole-width w d; inside = w .rows-below r n }) ∙ in-among n)
+          let p : Position (l .shape) r = record { size = w .row-lengths r n ∙ whole-width w d; inside = w .rows-below r n } in
+          holds-in l (true-sparse l r k p (in-same (whole-front l d p) n))
 
 -- ---- a diagonal
 
@@ -207,7 +205,7 @@ diagonalRows l = map (λ i. replicate (rank l) i) (below (getD (l .shape) 0 0))
 module _ {l : Layout} (w : WellFormed l) (k : l .kind ≡ 1) (d : l .dense ≡ 0) where
   -- a position is held if its components are equal
   held-alike : {q : List ℕ} → Position (l .shape) q → holds l q ≡ alike q
-  held-alike {q} p = holds-diagonal l q k ∙ (rw (true-position p, whole-front w d p))
+  held-alike {q} p = holds-diagonal l q k ∙ (rw (true-position p, whole-front l d p))
 
   -- each (i,..,i) below the first extent is held
   replicate-held : (i : ℕ) → i < getD (l .shape) 0 0 → holds l (replicate (rank l) i) ≡ true

@@ -92,12 +92,12 @@ module _ {l : Layout} (w : WellFormed l) where
       there : holds (expanded l) index ≡ true → holds l index ≡ true
       there h =
           let on = sparse-true (expanded l) index refl h in
-          in-holds l (rw (diagonal-positions w k z, ← whole-front w z (on .0)) (on .1))
+          in-holds l (rw (diagonal-positions w k z, ← whole-front l z (on .0)) (on .1))
 
       back : holds l index ≡ true → holds (expanded l) index ≡ true
       back h =
           let p = holds-position l index h in
-          true-sparse (expanded l) index refl p (rw (whole-front w z p, ← diagonal-positions w k z) (holds-in l h))
+          true-sparse (expanded l) index refl p (rw (whole-front l z p, ← diagonal-positions w k z) (holds-in l h))
 
   -- a held position: its row, and from any axis on one of the indices of the axes there
   behind-row : {index : List ℕ} (k : ℕ) → Position (l .shape) index → In (take (width l) index) (l .rows) →
