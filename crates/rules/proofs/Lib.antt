@@ -5,10 +5,11 @@
 --     RowsRead, Sections, Encoded, Walked, ReadBack                the record of a layout, and the layout of a record
 --     Ranges, Indices                                              every index of a shape, in order
 --     Before, Alike, Finding, Holding, Found, Counting             what is held, found and counted
---     Refusing, DenseRemoved                                       which numbers are given, and that 14 never is
---     Made, Once, Lowering, Listed, Unions, UnionHolds, Low        the union of two sound layouts by plain cases, and what it holds
+--     Made, DenseRemoved, Once, Lowering, Listed,
+--     Unions, UnionHolds, Low                                      the union of two sound layouts by plain cases, and what it holds
 --     Determined                                                   two outcomes that a contract allows are equal
 --     WorkedByHand                                                 the table
+--     Refusing, Never14                                            which numbers are given, and that 14 never is
 pub mod Order
 pub mod Same
 pub mod Sets
@@ -35,9 +36,8 @@ pub mod Finding
 pub mod Holding
 pub mod Found
 pub mod Counting
-pub mod Refusing
-pub mod DenseRemoved
 pub mod Made
+pub mod DenseRemoved
 pub mod Once
 pub mod Lowering
 pub mod Listed
@@ -46,3 +46,5 @@ pub mod UnionHolds
 pub mod Low
 pub mod Determined
 pub mod WorkedByHand
+pub mod Refusing
+pub mod Never14
