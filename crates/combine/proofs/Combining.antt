@@ -14,8 +14,7 @@ use Rattle.rules.specs.Lists.{same}
 use Rattle.rules.specs.Refusals.{Verdict, given, refused, numberOf}
 use Rattle.rules.specs.Layout.{Layout}
 use Rattle.rules.proofs.Same.{same-true}
-use Rattle.rules.proofs.Soundness.{Sound}
-use Rattle.rules.proofs.Low.{DepsLow}
+use Rattle.rules.specs.Soundness.{Sound, DepsLow}
 use Rattle.rules.proofs.Made.{fewOr}
 use Rattle.tables.proofs.Only.{only-same}
 use Rattle.parts.specs.Parts.{windowSize, left, right, target, denseAt, rankAt, layoutAt, Window}

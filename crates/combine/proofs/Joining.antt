@@ -11,7 +11,7 @@ use lib.ListN.{length}
 use Rattle.rules.specs.Limits.{entryLimit}
 use Rattle.rules.specs.RowsInOrder.{sorted, merge}
 use Rattle.rules.specs.Layout.{few}
-use Rattle.rules.specs.Removal.{lowered}
+use Rattle.rules.specs.Pairs.{lowered}
 use Rattle.rules.proofs.Same.{true-not-false, same-true}
 use Rattle.rules.proofs.Merging.{sorted-left, sorted-right, merge-length-left, merge-length-right}
 use Rattle.rules.proofs.Lowering.{Lowered, lowered-is}

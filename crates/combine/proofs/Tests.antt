@@ -11,8 +11,8 @@ use lib.ListN.{length, getD, drop}
 use Rattle.rules.specs.Lists.{same, product}
 use Rattle.rules.specs.Buffers.{part}
 use Rattle.rules.specs.Layout.{rank, isDense}
-use Rattle.rules.specs.Removal.{lowerD, listsRow, barsExpansion}
-use Rattle.rules.specs.Union.{alikeDiagonals}
+use Rattle.rules.specs.Removal.{listsRow}
+use Rattle.rules.specs.Pairs.{alikeDiagonals, lowerD, barsExpansion}
 use Rattle.rules.proofs.Same.{same-true}
 use Rattle.rules.proofs.Listed.{lists-between, lists-zero, lists-same}
 use Rattle.cells.specs.View.{view}

@@ -11,9 +11,11 @@ use Rattle.rules.specs.Lists.{same}
 use Rattle.rules.specs.Refusals.{refused, numberOf}
 use Rattle.rules.specs.Layout.{Layout}
 use Rattle.rules.specs.CountsAndForms.{toDense}
-use Rattle.rules.specs.Removal.{lowerD, listsRow, barsExpansion}
-use Rattle.rules.specs.Union.{withMerged, union}
-use Rattle.rules.proofs.Soundness.{Sound, diagonal-rows}
+use Rattle.rules.specs.Removal.{listsRow}
+use Rattle.rules.specs.Pairs.{lowerD, barsExpansion, withMerged}
+use Rattle.rules.specs.Union.{union}
+use Rattle.rules.specs.Soundness.{Sound}
+use Rattle.rules.proofs.Soundness.{diagonal-rows}
 use Rattle.rules.proofs.Made.{fewOr}
 use Rattle.rules.proofs.Unions.{union-shapes, union-sound, union-dense, union-diagonals, union-bars, union-lists, union-rows}
 use Rattle.rules.proofs.Low.{union-low}

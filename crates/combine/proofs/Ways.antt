@@ -6,8 +6,8 @@ use borrow.Author.Tests.{eqb-true, eqb-false}
 use lib.Dec.{eqb}
 use Rattle.rules.specs.Lists.{if}
 use Rattle.rules.specs.Layout.{Layout, isDense, isDiagonal}
-use Rattle.rules.specs.Removal.{listsRow, barsExpansion}
-use Rattle.rules.specs.Union.{alikeDiagonals}
+use Rattle.rules.specs.Removal.{listsRow}
+use Rattle.rules.specs.Pairs.{barsExpansion, alikeDiagonals}
 use Rattle.rules.proofs.Same.{both-true, neither}
 use Rattle.combine.specs.declared.window.Way.{Way}
 use Rattle.combine.specs.declared.window.Way.the-variants.{Dense, Diagonals, Rows}

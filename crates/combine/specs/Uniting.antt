@@ -6,8 +6,9 @@ use Prim.Native.Nat.{ℕ, _+_, _-_}
 use lib.IntN.{ℤ}
 use Rattle.rules.specs.RowsInOrder.{merge}
 use Rattle.rules.specs.Layout.{Layout, few}
-use Rattle.rules.specs.Removal.{lowered, lowerD, listsRow, barsExpansion}
-use Rattle.rules.specs.Union.{withMerged, joined}
+use Rattle.rules.specs.Removal.{listsRow}
+use Rattle.rules.specs.Pairs.{lowered, lowerD, barsExpansion, withMerged}
+use Rattle.rules.specs.Union.{joined}
 use Rattle.tables.specs.Tables.{tableAt, Only}
 use Rattle.parts.specs.Parts.{rowsFrom, windowSize, left, right, target, rankAt, layoutAt}
 use Rattle.combine.specs.Window.{RowsAsked}

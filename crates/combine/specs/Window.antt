@@ -14,8 +14,7 @@ use Rattle.rules.specs.Buffers.{part}
 use Rattle.rules.specs.RowsInOrder.{merge}
 use Rattle.rules.specs.Refusals.{Verdict}
 use Rattle.rules.specs.Layout.{Layout, isDense, few}
-use Rattle.rules.specs.Removal.{fewOf}
-use Rattle.rules.specs.Union.{alikeDiagonals}
+use Rattle.rules.specs.Pairs.{fewOf, alikeDiagonals}
 use Rattle.cells.specs.View.{view}
 use Rattle.tables.specs.Tables.{tableAt, Only}
 use Rattle.parts.specs.Parts.{extentsFrom, rowsFrom, statesFrom, inputsFrom, windowSize, left, right, target, spare, kindAt, denseAt, rankAt, layoutAt, Window}

@@ -17,17 +17,17 @@ use Rattle.rules.specs.declared.Written.the-variants.{Refused}
 use Rattle.rules.specs.Limits.{productLimit}
 use Rattle.rules.specs.Lists.{if, all, none, gather, allBelow}
 use Rattle.rules.specs.RowsInOrder.{cmpRows, insert, sorted, increasing}
-use Rattle.rules.specs.Layout.{Layout, encode, distinct, few, alike, wellFormed, withinProduct}
+use Rattle.rules.specs.Layout.{Layout, encode, distinct, few, alike, wellFormed, withinProduct, nonzeroProduct}
 use Rattle.rules.specs.Record.{natural, naturals, rowsOf, entriesOf, shapeIn}
 use Rattle.rules.specs.Refusals.{given, refused, inForm, numberOf, lowest}
+use Rattle.rules.specs.Soundness.{WellFormed}
 use Rattle.rules.specs.Endings.{EndsIn}
 use Rattle.rules.specs.CountsAndForms.{sparse}
-use Rattle.rules.proofs.Extents.{nonzeroProduct}
 use Rattle.rules.proofs.Made.{Formed, formed-made}
 use Rattle.rules.proofs.RowsRead.{pos-naturals, rows-length, gather-rows}
 use Rattle.rules.proofs.Same.{both-true, decided, true-not-false}
 use Rattle.rules.proofs.Sets.{each-nil}
-use Rattle.rules.proofs.Soundness.{WellFormed, well-formed-true, true-well-formed}
+use Rattle.rules.proofs.Soundness.{well-formed-true, true-well-formed}
 use Rattle.rules.proofs.Tests.{all-each, each-all}
 use Rattle.cells.specs.View.{view, Low}
 use Rattle.tables.specs.Rows.{rowsAt, HasRows}

@@ -11,8 +11,9 @@ use lib.ListN.{length, getD, take, drop, length-take, length-drop}
 use lib.Seq.{length-take-le}
 use Rattle.rules.specs.Lists.{all, allBelow}
 use Rattle.rules.specs.Buffers.{part}
+use Rattle.rules.specs.RowsInOrder.{Each}
 use Rattle.rules.specs.Record.{naturals, rowsOf, shapeIn}
-use Rattle.rules.proofs.Sets.{Each, each-nil, each-cons}
+use Rattle.rules.proofs.Sets.{each-nil, each-cons}
 use Rattle.rules.proofs.RowsRead.{naturals-take, naturals-drop, rows-length, rows-row}
 use Rattle.tables.proofs.Rows.{row-ends, lent-row}
 use Rattle.records.proofs.Passing.{Passed, none-passed, one-more, one-fails, all-passed}

@@ -19,18 +19,18 @@ use Rattle.rules.specs.declared.Written.the-variants.{Refused}
 use Rattle.rules.specs.Limits.{productLimit}
 use Rattle.rules.specs.Lists.{all, gather}
 use Rattle.rules.specs.Buffers.{part}
-use Rattle.rules.specs.RowsInOrder.{sorted}
-use Rattle.rules.specs.Layout.{Layout, encode, alike, wellFormed, withinProduct, made}
+use Rattle.rules.specs.RowsInOrder.{sorted, increasing-nil}
+use Rattle.rules.specs.Layout.{Layout, encode, alike, wellFormed, withinProduct, made, nonzeroProduct}
 use Rattle.rules.specs.Record.{natural, naturals, sectionAt, shapeIn, goodExtents, goodShape}
 use Rattle.rules.specs.Refusals.{Verdict, given, refused, inForm, numberOf, lowest}
+use Rattle.rules.specs.Soundness.{WellFormed, DepsFit}
 use Rattle.rules.specs.Endings.{EndsIn, resultAfter}
 use Rattle.rules.specs.CountsAndForms.{dense, newEmpty, diagonal}
-use Rattle.rules.proofs.Extents.{nonzeroProduct}
 use Rattle.rules.proofs.Made.{Formed, formed-made}
 use Rattle.rules.proofs.RowsRead.{pos-naturals}
 use Rattle.rules.proofs.Same.{both-true, true-not-false}
-use Rattle.rules.proofs.Sets.{each-nil, increasing-nil}
-use Rattle.rules.proofs.Soundness.{WellFormed, DepsFit, well-formed-true}
+use Rattle.rules.proofs.Sets.{each-nil}
+use Rattle.rules.proofs.Soundness.{well-formed-true}
 use Rattle.cells.specs.View.{view}
 use Rattle.cells.proofs.View.{view-part, view-pos}
 use Rattle.tables.proofs.Rows.{lent-row}

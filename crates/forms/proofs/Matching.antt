@@ -12,10 +12,10 @@ use Rattle.rules.specs.declared.Head.{Head}
 use Rattle.rules.specs.Lists.{same, sameRows}
 use Rattle.rules.specs.Buffers.{part}
 use Rattle.rules.specs.Layout.{Layout, rank, section}
+use Rattle.rules.specs.Soundness.{WellFormed}
 use Rattle.rules.specs.Record.{layoutIn}
 use Rattle.rules.specs.CountsAndForms.{eqNonzeros, eqNonzerosAndDeps}
 use Rattle.rules.proofs.Same.{decided, same-true, same-refl, same-rows-true, same-rows-refl}
-use Rattle.rules.proofs.Soundness.{WellFormed}
 use Rattle.rules.proofs.Tests.{conjunct, true-both}
 use Rattle.cells.specs.View.{view}
 use Rattle.cells.proofs.View.{view-length}

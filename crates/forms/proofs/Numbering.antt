@@ -15,12 +15,12 @@ use Rattle.rules.specs.Limits.{productLimit, componentLimit}
 use Rattle.rules.specs.Lists.{all, allBelow}
 use Rattle.rules.specs.Buffers.{part}
 use Rattle.rules.specs.RowsInOrder.{sorted}
-use Rattle.rules.specs.Layout.{distinct, withinProduct}
+use Rattle.rules.specs.Layout.{distinct, withinProduct, nonzeroProduct}
 use Rattle.rules.specs.Record.{natural, naturals, rowsOf, shapeIn}
 use Rattle.rules.specs.Arguments.{upTo, goodComponents, goodIndex}
 use Rattle.rules.specs.Positions.{ravelIndex}
 use Rattle.rules.proofs.Buffers.{length-part}
-use Rattle.rules.proofs.Extents.{nonzeroProduct, product-nonzero, extent-nonzero}
+use Rattle.rules.proofs.Extents.{product-nonzero, extent-nonzero}
 use Rattle.rules.proofs.Indices.{ravel-below, ravel-same}
 use Rattle.rules.proofs.Places.{in-at}
 use Rattle.rules.proofs.Ranges.{map-at}

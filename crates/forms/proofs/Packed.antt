@@ -10,12 +10,13 @@ use Rattle.rules.specs.declared.Head.{Head}
 use Rattle.rules.specs.declared.Entries.{Entries}
 use Rattle.rules.specs.Lists.{gather}
 use Rattle.rules.specs.Buffers.{part}
+use Rattle.rules.specs.RowsInOrder.{Each}
 use Rattle.rules.specs.Layout.{Layout, rank, width, section}
+use Rattle.rules.specs.Soundness.{WellFormed}
 use Rattle.rules.specs.Record.{layoutIn}
 use Rattle.rules.proofs.Buffers.{length-part}
 use Rattle.rules.proofs.RowsRead.{gather-rows}
-use Rattle.rules.proofs.Sets.{Each, each-head, each-tail}
-use Rattle.rules.proofs.Soundness.{WellFormed}
+use Rattle.rules.proofs.Sets.{each-head, each-tail}
 use Rattle.cells.specs.View.{view, code}
 use Rattle.cells.proofs.View.{view-length, view-getD}
 use Rattle.tables.specs.Rows.{rowsAt}

@@ -13,7 +13,7 @@ use Rattle.rules.specs.declared.Head.{Head}
 use Rattle.rules.specs.Limits.{componentLimit}
 use Rattle.rules.specs.Lists.{if, all, allBelow}
 use Rattle.rules.specs.Buffers.{part, over, zeros}
-use Rattle.rules.specs.RowsInOrder.{increasing}
+use Rattle.rules.specs.RowsInOrder.{increasing, Increasing}
 use Rattle.rules.specs.Layout.{Layout, width}
 use Rattle.rules.specs.Record.{natural, naturals, layoutIn, shapeIn, sound, ordered}
 use Rattle.rules.specs.Arguments.{upTo, goodComponents, goodIndex}
@@ -25,7 +25,7 @@ use Rattle.rules.proofs.Buffers.{length-part}
 use Rattle.rules.proofs.Finding.{read-length, lookup-inside, place-dense, place-diagonal, place-sparse}
 use Rattle.rules.proofs.Same.{both-true}
 use Rattle.rules.proofs.Sections.{naturals-pos}
-use Rattle.rules.proofs.Sets.{Increasing, increasing-true}
+use Rattle.rules.proofs.Sets.{increasing-true}
 use Rattle.rules.proofs.Tests.{true-both}
 use Rattle.cells.specs.View.{view}
 use Rattle.cells.proofs.View.{view-length, view-pos}

@@ -14,9 +14,9 @@ use mir.Syntax.{w64}
 use mir.Val.{Fits}
 use Rattle.rules.specs.Limits.{productLimit}
 use Rattle.rules.specs.Lists.{product}
-use Rattle.rules.specs.Layout.{withinProduct}
+use Rattle.rules.specs.Layout.{withinProduct, nonzeroProduct}
 use Rattle.rules.specs.Record.{shapeIn}
-use Rattle.rules.proofs.Extents.{nonzeroProduct, nonzero-pos, nonzero-most}
+use Rattle.rules.proofs.Extents.{nonzero-pos, nonzero-most}
 use Rattle.shapes.specs.Judged.{Judged}
 use Rattle.lookups.proofs.SoundRecords.{shape-within}
 

@@ -5,11 +5,11 @@ use mathlib.Core.List.{List, []}
 use Prim.Native.Nat.{ℕ, _<_}
 use lib.ListN.{length, getD}
 use Rattle.rules.specs.Lists.{if}
+use Rattle.rules.specs.RowsInOrder.{Increasing}
 use Rattle.rules.specs.Refusals.{given}
 use Rattle.rules.specs.Endings.{Lookup, found, nothing}
 use Rattle.rules.specs.Lookup.{placeFrom}
 use Rattle.rules.proofs.Order.{ComparedNumbers, under, even, above, compareNumbers, less-not-same}
-use Rattle.rules.proofs.Sets.{Increasing}
 use Rattle.rules.proofs.Places.{in-at, increasing-at}
 use Rattle.rules.proofs.Finding.{place-at, place-has}
 use Rattle.tables.specs.declared.Spot.{Spot}

@@ -11,9 +11,7 @@ use lib.IntN.{ℤ}
 use lib.ListN.{getD, take, drop, take-append-drop}
 use lib.Seq.{take-suc, take-all}
 use Rattle.rules.specs.Lists.{gather, product}
-use Rattle.rules.specs.Removal.{positions}
-use Rattle.rules.proofs.Once.{crossed}
-use Rattle.rules.proofs.Lowering.{fullRows}
+use Rattle.rules.specs.Removal.{positions, crossed, fullRows}
 use Rattle.cells.specs.View.{view}
 use Rattle.tables.specs.Rows.{rowAt}
 use Rattle.tables.specs.Tables.{tableAt, roomEnd, Fits}

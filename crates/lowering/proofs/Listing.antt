@@ -11,12 +11,13 @@ use lib.IntN.{ℤ, pos}
 use lib.ListN.{length, getD, set}
 use Rattle.rules.specs.RowsInOrder.{sorted}
 use Rattle.rules.specs.Layout.{Layout}
-use Rattle.rules.specs.Removal.{lowered}
+use Rattle.rules.specs.Removal.{fullRows}
+use Rattle.rules.specs.Pairs.{lowered}
 use Rattle.rules.proofs.Soundness.{OneKind, is-dense, is-diagonal, is-sparse, one-kind}
 use Rattle.rules.proofs.Sorting.{sorted-length}
 use Rattle.rules.proofs.Extents.{extent-limited}
-use Rattle.rules.proofs.Held.{diagonal-rank}
-use Rattle.rules.proofs.Lowering.{fullRows, expands-dense, diagonal-made, same-made, full-made, none-made}
+use Rattle.rules.proofs.Holding.{diagonal-rank}
+use Rattle.rules.proofs.Lowering.{expands-dense, diagonal-made, same-made, full-made, none-made}
 use Rattle.cells.specs.View.{view}
 use Rattle.tables.specs.Tables.{tableAt, Only, Ready, SortAsked, Sorted}
 use Rattle.tables.proofs.Rows.{row-number}

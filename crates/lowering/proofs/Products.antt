@@ -9,7 +9,8 @@ use lib.IntN.{ℤ}
 use lib.ListN.{length, getD, drop, drop-of-length-le}
 use lib.Seq.{drop-cons}
 use Rattle.rules.specs.Lists.{keep, product}
-use Rattle.rules.proofs.Extents.{nonzeroProduct, product-nonzero}
+use Rattle.rules.specs.Layout.{nonzeroProduct}
+use Rattle.rules.proofs.Extents.{product-nonzero}
 use Rattle.cells.specs.View.{view}
 use Rattle.tables.specs.Rows.{rowAt}
 use Rattle.tables.proofs.Rows.{row-length, row-number}

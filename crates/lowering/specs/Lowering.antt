@@ -9,9 +9,9 @@ use lib.ListN.{length, drop, replicate}
 use Rattle.rules.specs.Limits.{productLimit}
 use Rattle.rules.specs.Lists.{below, product}
 use Rattle.rules.specs.RowsInOrder.{sorted}
-use Rattle.rules.specs.Layout.{few}
-use Rattle.rules.specs.Removal.{positions, listsRow, barsExpansion}
-use Rattle.rules.proofs.Extents.{nonzeroProduct}
+use Rattle.rules.specs.Layout.{few, nonzeroProduct}
+use Rattle.rules.specs.Removal.{positions, listsRow}
+use Rattle.rules.specs.Pairs.{barsExpansion}
 use Rattle.tables.specs.Rows.{rowAt, HasRow}
 use Rattle.tables.specs.Tables.{tableAt, roomEnd, Only, Ready}
 use Rattle.parts.specs.Parts.{kindAt, denseAt, rankAt, layoutAt, Holds, Apart}

@@ -7,8 +7,9 @@ use Rattle.rules.specs.Lists.{if, same}
 use Rattle.rules.specs.Refusals.{Verdict, Reason, _when_, _then_, lowest}
 use Rattle.rules.specs.Layout.{Layout, made, isDense, few}
 use Rattle.rules.specs.CountsAndForms.{toDense}
-use Rattle.rules.specs.Removal.{lowered, lowerD, listsRow, barsExpansion}
-use Rattle.rules.specs.Union.{withMerged, joined, alikeDiagonals, unionOfRows, union}
+use Rattle.rules.specs.Removal.{listsRow}
+use Rattle.rules.specs.Pairs.{lowered, lowerD, barsExpansion, withMerged, alikeDiagonals}
+use Rattle.rules.specs.Union.{joined, unionOfRows, union}
 use Rattle.parts.proofs.Ending.{Late, late-if, late-then, late-lowest, late-made}
 
 -- a union that is refused is refused with 3 or more

@@ -10,10 +10,11 @@ use lib.ListN.{length, getD, take, drop}
 use lib.Seq.{drop-cons}
 use Rattle.rules.specs.Buffers.{part, put}
 use Rattle.rules.specs.Lists.{gather}
+use Rattle.rules.specs.RowsInOrder.{Each}
 use Rattle.rules.specs.Layout.{section}
 use Rattle.rules.proofs.Buffers.{length-part}
 use Rattle.rules.proofs.RowsRead.{gather-rows}
-use Rattle.rules.proofs.Sets.{Each, each-head, each-tail}
+use Rattle.rules.proofs.Sets.{each-head, each-tail}
 use Rattle.cells.specs.View.{view, Low}
 use Rattle.cells.proofs.View.{view-length, view-part, low-view}
 use Rattle.tables.specs.Rows.{rowsAt}

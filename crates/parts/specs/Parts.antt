@@ -8,8 +8,7 @@ use lib.ListN.{length, getD}
 use Rattle.rules.specs.Limits.{resultSize}
 use Rattle.rules.specs.Buffers.{part}
 use Rattle.rules.specs.Layout.{Layout}
-use Rattle.rules.proofs.Soundness.{Sound}
-use Rattle.rules.proofs.Low.{DepsLow}
+use Rattle.rules.specs.Soundness.{Sound, DepsLow}
 use Rattle.cells.specs.View.{view}
 use Rattle.tables.specs.Tables.{tableAt}
 

@@ -12,9 +12,9 @@ use lib.Seq.{take-take}
 use Rattle.rules.specs.declared.Head.{Head}
 use Rattle.rules.specs.Lists.{all, none, allBelow}
 use Rattle.rules.specs.Buffers.{part}
-use Rattle.rules.specs.RowsInOrder.{increasing}
+use Rattle.rules.specs.RowsInOrder.{increasing, Each}
 use Rattle.rules.specs.Layout.{rank, width, few, alike, rowFits, diagonalFits, depsFit, depsSmall}
-use Rattle.rules.proofs.Sets.{Each, each-head, each-tail}
+use Rattle.rules.proofs.Sets.{each-head, each-tail}
 use Rattle.rules.proofs.Places.{in-stands}
 use Rattle.rules.proofs.Buffers.{length-part}
 use Rattle.cells.specs.View.{view}

@@ -7,6 +7,7 @@
 --     SoundRecords                           a record that was judged
 --     Answers                                what is answered about any record
 --     EndToEnd                               things end to end, walked from one to the next
+--     Determined                             two parts that the contract of `row` allows are one
 pub mod Sections
 pub mod Walks
 pub mod InTurn
@@ -24,3 +25,4 @@ pub mod Soundness
 pub mod SoundRecords
 pub mod Answers
 pub mod EndToEnd
+pub mod Determined

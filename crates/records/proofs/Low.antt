@@ -9,11 +9,12 @@ use lib.ListN.{length, getD, take, drop, replicate, length-take, List·getD-eq-d
 use lib.Seq.{getD-take, getD-drop}
 use Rattle.rules.specs.declared.Entries.{Entries}
 use Rattle.rules.specs.Buffers.{part}
+use Rattle.rules.specs.RowsInOrder.{Each}
 use Rattle.rules.specs.Record.{natural, naturals, rowsOf, entriesOf, entriesIn}
 use Rattle.rules.proofs.RowsRead.{naturals-take}
 use Rattle.rules.proofs.Order.{ComparedNumbers, under, even, above, compareNumbers}
 use Rattle.rules.proofs.RowsRead.{naturals-take, rows-cut}
-use Rattle.rules.proofs.Sets.{Each, each-nil, each-cons}
+use Rattle.rules.proofs.Sets.{each-nil, each-cons}
 use Rattle.cells.specs.View.{code, view, Low}
 use Rattle.cells.proofs.View.{view-part}
 use Rattle.tables.specs.Rows.{rowsAt, HasRows}

@@ -14,8 +14,8 @@ use lib.Seq.{drop-cons}
 use mir.Syntax.{w64}
 use mir.Val.{Fits}
 use Rattle.rules.specs.Lists.{keep, product}
-use Rattle.rules.specs.Layout.{withinProduct}
-use Rattle.rules.proofs.Extents.{nonzeroProduct, nonzero-zero, nonzero-more, nonzero-pos}
+use Rattle.rules.specs.Layout.{withinProduct, nonzeroProduct}
+use Rattle.rules.proofs.Extents.{nonzero-zero, nonzero-more, nonzero-pos}
 use Rattle.cells.specs.View.{view}
 use Rattle.tables.specs.Rows.{rowAt}
 use Rattle.tables.proofs.Rows.{row-length, row-number}

@@ -14,10 +14,10 @@ use Rattle.rules.specs.declared.Walk.the-variants.{To, Broken}
 use Rattle.rules.specs.Lists.{all}
 use Rattle.rules.specs.RowsInOrder.{increasing}
 use Rattle.rules.specs.Layout.{soundLayout}
+use Rattle.rules.specs.Soundness.{Sound}
 use Rattle.rules.specs.Record.{walk, layoutBy, layoutIn, soundFrom, sound, ordered}
 use Rattle.rules.proofs.ReadBack.{layout-sound as read-sound}
 use Rattle.rules.proofs.Same.{both-true}
-use Rattle.rules.proofs.Soundness.{Sound}
 use Rattle.rules.proofs.Walked.{one-head}
 use Rattle.tables.specs.Rows.{rowsAt, HasRows}
 use Rattle.records.specs.Heads.{HeadOf}

@@ -7,9 +7,9 @@ use native.Mathlib.Omega.{arith}
 use lib.ListN.{length, getD, take}
 use lib.Seq.{length-take-le}
 use Rattle.rules.specs.Lists.{putIf, keep}
-use Rattle.rules.specs.RowsInOrder.{cmpRows, isLess}
+use Rattle.rules.specs.RowsInOrder.{cmpRows, isLess, Each, Increasing, increasing-nil, increasing-cons}
 use Rattle.rules.proofs.Order.{cmp-same, cmp-less-flip}
-use Rattle.rules.proofs.Sets.{Each, each-head, each-tail, Increasing, increasing-nil, increasing-cons}
+use Rattle.rules.proofs.Sets.{each-head, each-tail}
 use Rattle.rules.proofs.Places.{in-at}
 
 -- where every row passes, all are kept

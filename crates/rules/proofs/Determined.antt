@@ -118,6 +118,10 @@ place-known (NoPlace x) = ap NoPlace (refusal-known x)
 pub place-determined : (r r′ : Place) → placeSays r ≡ placeSays r′ → r ≡ r′
 place-determined = one-answer placeSays placeBack place-known
 
+-- an answer that is said outright, as a test of `sound` and `ordered` or the number of a refusal
+pub value-determined : {A : Type 0} {v : A} (r r′ : A) → r ≡ v → r′ ≡ v → r ≡ r′
+value-determined r r′ p q = p ∙ sym q
+
 -- ---- the outcomes of a call
 
 -- a shape or an index by value

@@ -17,11 +17,12 @@ use Rattle.rules.specs.declared.Walk.the-variants.{To}
 use Rattle.rules.specs.Limits.{resultSize}
 use Rattle.rules.specs.Lists.{all}
 use Rattle.rules.specs.Buffers.{part}
+use Rattle.rules.specs.RowsInOrder.{Each}
 use Rattle.rules.specs.Layout.{Layout, rank, width, section, encode}
+use Rattle.rules.specs.Soundness.{DepsFit, Sound}
 use Rattle.rules.specs.Record.{walk, natural, naturals, entriesOf, layoutBy, layoutIn, sound, behindRecord}
-use Rattle.rules.proofs.Sets.{Each}
 use Rattle.rules.proofs.Tests.{true-both}
-use Rattle.rules.proofs.Soundness.{DepsFit, Sound, true-sound}
+use Rattle.rules.proofs.Soundness.{true-sound}
 use Rattle.rules.proofs.Sections.{naturals-pos, all-pos, length-gather, part-at, Stands, RowsStand, rows-read, section-at, section-part, section-body, section-behind}
 
 -- ---- places

@@ -1,21 +1,15 @@
 -- How large the extents of a sound layout are. Assumes nothing.
 use mathlib.Core.Path.{_≡_}
-use mathlib.Core.Bool.{not}
 use mathlib.Core.List.{List, [], _∷_}
 use Prim.Native.Nat.{ℕ, zero, suc, _*_, _≤_, _<_}
 use native.Mathlib.Nat.{zero-mul, mul-comm, mul-pos, mul-le-mul-left, le-mul-of-pos-right, le-trans}
 use native.Mathlib.Omega.{arith}
 use borrow.Author.Tests.{eq-eqb, ne-eqb}
 use lib.ListN.{getD}
-use lib.Dec.{eqb}
 use Rattle.rules.specs.Limits.{productLimit}
 use Rattle.rules.specs.Lists.{keep, product}
-use Rattle.rules.specs.Layout.{Layout}
-use Rattle.rules.proofs.Soundness.{WithinSizes}
-
--- the product of the extents that are not zero
-abbrev pub nonzeroProduct : List ℕ → ℕ
-nonzeroProduct shape = product (keep (λ e. not (eqb e 0)) shape)
+use Rattle.rules.specs.Layout.{Layout, nonzeroProduct}
+use Rattle.rules.specs.Soundness.{WithinSizes}
 
 -- a zero is left out
 pub nonzero-zero : (e : ℕ) (shape : List ℕ) → e ≡ 0 → nonzeroProduct (e ∷ shape) ≡ nonzeroProduct shape

@@ -7,10 +7,9 @@ use Prim.Native.Nat.{ℕ, _≤_, _<_}
 use native.Mathlib.Omega.{arith}
 use borrow.Author.Tests.{leb-false, lt-leb}
 use lib.ListN.{length}
-use Rattle.rules.specs.RowsInOrder.{insert, sorted, sortedOnto, sortedFew}
+use Rattle.rules.specs.RowsInOrder.{insert, sorted, sortedOnto, sortedFew, Increasing, increasing-nil}
 use Rattle.rules.specs.Layout.{few}
 use Rattle.rules.proofs.Same.{true-not-false}
-use Rattle.rules.proofs.Sets.{Increasing, increasing-nil}
 use Rattle.rules.proofs.Sorting.{insert-increasing, sorted-id}
 use Rattle.rules.proofs.Merging.{sorted-snoc, sorted-left, merge-length-left, merge-nil-right}
 

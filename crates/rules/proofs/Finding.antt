@@ -8,12 +8,12 @@ use borrow.Author.Tests.{ltb-true, eqb-true}
 use lib.Dec.{eqb, ltb}
 use lib.ListN.{length, getD, take}
 use Rattle.rules.specs.Lists.{if, all, allBelow, same}
+use Rattle.rules.specs.RowsInOrder.{In}
 use Rattle.rules.specs.Layout.{Layout, width}
 use Rattle.rules.specs.Endings.{found, nothing}
 use Rattle.rules.specs.Positions.{ravelIndex}
 use Rattle.rules.specs.Lookup.{readIndex, placeFrom, placeOf, lookup}
 use Rattle.rules.proofs.Same.{both-true, same-true, same-refl}
-use Rattle.rules.proofs.Sets.{In}
 
 -- ---- the index as it is read
 

@@ -11,11 +11,12 @@ use lib.Dec.{ltb}
 use lib.ListN.{length, getD, length-append, length-map, List·getD-append}
 use lib.Seq.{getD-append-add}
 use Rattle.rules.specs.Lists.{gather, from, product, allBelow}
+use Rattle.rules.specs.RowsInOrder.{In, Each, Least, Increasing, increasing-nil, increasing-cons}
 use Rattle.rules.specs.Positions.{ravelIndex}
 use Rattle.rules.specs.Removal.{positions}
 use Rattle.rules.proofs.Order.{ComparedNumbers, under, even, above, compareNumbers, cons-less, cons-same}
 use Rattle.rules.proofs.Same.{both-true}
-use Rattle.rules.proofs.Sets.{In, in-same, Each, Least, Increasing, increasing-nil, increasing-cons, one-increasing, append-increasing}
+use Rattle.rules.proofs.Sets.{in-same, one-increasing, append-increasing}
 use Rattle.rules.proofs.Tests.{true-both}
 use Rattle.rules.proofs.Ranges.{map-at}
 

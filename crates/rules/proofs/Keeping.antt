@@ -6,7 +6,8 @@ use Prim.Native.Nat.{ℕ, _≤_}
 use native.Mathlib.Omega.{arith}
 use lib.ListN.{length}
 use Rattle.rules.specs.Lists.{keep}
-use Rattle.rules.proofs.Sets.{In, Each, each-nil, each-cons, Subset, Increasing, increasing-nil, increasing-cons}
+use Rattle.rules.specs.RowsInOrder.{In, Each, Increasing, increasing-nil, increasing-cons}
+use Rattle.rules.proofs.Sets.{each-nil, each-cons, Subset}
 
 module _ (test : List ℕ → Bool) where
   -- a row that passes is kept

@@ -4,10 +4,12 @@
 --     Tests, Soundness, Extents                                    what a sound layout is, part by part
 --     RowsRead, Sections, Encoded, Walked, ReadBack                the record of a layout, and the layout of a record
 --     Ranges, Indices                                              every index of a shape, in order
---     Before, Alike, Held, Finding, Found, Counting                what is held, found and counted
---     Made, Once, Lowering, Listed, Unions, Low                    the union of two sound layouts by plain cases
+--     Before, Alike, Finding, Holding, Found, Counting             what is held, found and counted
+--     Made, DenseRemoved, Once, Lowering, Listed,
+--     Unions, UnionHolds, Low                                      the union of two sound layouts by plain cases, and what it holds
 --     Determined                                                   two outcomes that a contract allows are equal
 --     WorkedByHand                                                 the table
+--     Refusing, Never14                                            which numbers are given, and that 14 never is
 pub mod Order
 pub mod Same
 pub mod Sets
@@ -30,15 +32,19 @@ pub mod Ranges
 pub mod Indices
 pub mod Before
 pub mod Alike
-pub mod Held
 pub mod Finding
+pub mod Holding
 pub mod Found
 pub mod Counting
 pub mod Made
+pub mod DenseRemoved
 pub mod Once
 pub mod Lowering
 pub mod Listed
 pub mod Unions
+pub mod UnionHolds
 pub mod Low
 pub mod Determined
 pub mod WorkedByHand
+pub mod Refusing
+pub mod Never14

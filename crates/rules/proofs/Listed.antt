@@ -10,12 +10,11 @@ use lib.Dec.{ltb}
 use lib.ListN.{length, getD, drop, length-map}
 use Rattle.rules.specs.Lists.{none, product}
 use Rattle.rules.specs.Layout.{Layout, width}
-use Rattle.rules.specs.Removal.{positions, keptAxes, removedRows, listsRow}
+use Rattle.rules.specs.Removal.{positions, keptAxes, removedRows, listsRow, fullRows}
 use Rattle.rules.proofs.Ranges.{from-length}
 use Rattle.rules.proofs.Indices.{positions-length}
-use Rattle.rules.proofs.Held.{diagonalRows}
+use Rattle.rules.proofs.Holding.{diagonalRows}
 use Rattle.rules.proofs.Once.{crossed-length}
-use Rattle.rules.proofs.Lowering.{fullRows}
 
 -- ---- how many
 

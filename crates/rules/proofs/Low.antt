@@ -2,7 +2,7 @@
 use mathlib.Core.Path.{_≡_, subst}
 use mathlib.Core.Bool.{true}
 use mathlib.Core.List.{List, [], _∷_}
-use Prim.Native.Nat.{ℕ, zero, suc, _^_, _≤_, _<_}
+use Prim.Native.Nat.{ℕ, zero, suc, _≤_, _<_}
 use native.Mathlib.Omega.{arith}
 use borrow.Author.Tests.{ltb-true}
 use lib.Dec.{ltb}
@@ -12,20 +12,17 @@ use Rattle.rules.specs.Lists.{allBelow}
 use Rattle.rules.specs.RowsInOrder.{merge}
 use Rattle.rules.specs.Refusals.{given}
 use Rattle.rules.specs.Layout.{Layout, rank}
-use Rattle.rules.specs.Union.{withMerged, union}
+use Rattle.rules.specs.Soundness.{NumbersBelow, DepsLow, WithinSizes, Sound}
+use Rattle.rules.specs.Pairs.{withMerged}
+use Rattle.rules.specs.Union.{union}
 use Rattle.rules.proofs.Order.{ComparedNumbers, under, even, above, compareNumbers}
 use Rattle.rules.proofs.Same.{both-true}
-use Rattle.rules.proofs.Sets.{Each, each-append}
+use Rattle.rules.proofs.Sets.{each-append}
 use Rattle.rules.proofs.Sorting.{sorted-each}
-use Rattle.rules.proofs.Soundness.{WithinSizes, Sound}
 use Rattle.rules.proofs.Extents.{extent-limited}
 use Rattle.rules.proofs.Made.{made-sound}
 use Rattle.rules.proofs.Lowering.{Lowered}
-use Rattle.rules.proofs.Unions.{union-made}
-
--- every number of every row is below n
-abbrev pub Low : ℕ → List (List ℕ) → Type 0
-Low n t = Each (λ r. (k : ℕ) → getD r k 0 < n) t
+use Rattle.rules.proofs.Unions.{union-gives}
 
 -- ---- rows
 
@@ -50,23 +47,18 @@ row-low {l} w r h e k = go (compareNumbers k (length r))
     go (above g) = past (omega arith)
 
 -- the numbers of the rows of a sound layout are
-pub rows-low : {l : Layout} → Sound l → Low productLimit (l .rows)
+pub rows-low : {l : Layout} → Sound l → NumbersBelow productLimit (l .rows)
 rows-low {l} s r m = row-low (s .sizes) r (omega (arith, s .form .row-lengths r m)) (s .form .rows-below r m)
 
 -- and so are those of its rows with a smaller D
-pub lowered-low : {l x : Layout} {d : ℕ} → Sound l → Lowered l x d → Low productLimit (x .rows)
+pub lowered-low : {l x : Layout} {d : ℕ} → Sound l → Lowered l x d → NumbersBelow productLimit (x .rows)
 lowered-low {l} s p r m = row-low (s .sizes) r (omega (arith, p .row-lengths r m)) (p .rows-below r m)
 
 -- rows of two such lists, merged, are such
-pub merged-low : {n : ℕ} {s t : List (List ℕ)} → Low n s → Low n t → Low n (merge s t)
+pub merged-low : {n : ℕ} {s t : List (List ℕ)} → NumbersBelow n s → NumbersBelow n t → NumbersBelow n (merge s t)
 merged-low f g = sorted-each (each-append f g)
 
 -- ---- dependencies
-
--- every number of every dependency is below 2 ^ 31
-pub record DepsLow (l : Layout) : Type 0 where
-  pub states-low : Low (2 ^ 31) (l .states)
-  pub inputs-low : Low (2 ^ 31) (l .inputs)
 
 -- merged dependencies of two such layouts are such
 pub merged-deps-low : {a b : Layout} (l : Layout) → DepsLow a → DepsLow b → DepsLow (withMerged a b l)
@@ -75,5 +67,5 @@ merged-deps-low l p q = record { states-low = merged-low (p .states-low) (q .sta
 -- and so are those of their union
 pub union-low : {a b l : Layout} → DepsLow a → DepsLow b → union a b ≡ given l → DepsLow l
 union-low {a} {b} p q e =
-    let m = union-made a b e in
-    subst DepsLow (made-sound (m .1) .0) (merged-deps-low (m .0) p q)
+    let g = union-gives a b e in
+    subst DepsLow (made-sound (g .was-made) .0) (merged-deps-low (g .whole) p q)

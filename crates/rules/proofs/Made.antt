@@ -11,10 +11,11 @@ use Rattle.rules.specs.Lists.{if, keep, product}
 use Rattle.rules.specs.RowsInOrder.{merge}
 use Rattle.rules.specs.Refusals.{Verdict, given, refused, _then_, _when_, lowest}
 use Rattle.rules.specs.Layout.{Layout, rank, few, withDeps, withinProduct, wellFormed, withinSizes, made}
-use Rattle.rules.specs.Union.{withMerged}
+use Rattle.rules.specs.Soundness.{DepsFit, DepsSmall, WellFormed, Sound}
+use Rattle.rules.specs.Pairs.{withMerged}
 use Rattle.rules.proofs.Sets.{each-append}
 use Rattle.rules.proofs.Sorting.{sorted-increasing, sorted-each}
-use Rattle.rules.proofs.Soundness.{DepsFit, DepsSmall, true-deps-small, WellFormed, well-formed-true, true-well-formed, within-sizes-true, Sound}
+use Rattle.rules.proofs.Soundness.{true-deps-small, well-formed-true, true-well-formed, within-sizes-true}
 
 -- ---- what is judged of a layout that is made
 

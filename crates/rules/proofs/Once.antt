@@ -1,15 +1,16 @@
 -- Rows no two of which are equal, and such rows with such ends behind them. Assumes nothing.
 use mathlib.Core.Path.{_≡_, refl, sym, ap, _∙_}
 use mathlib.Core.Logic.{⊎-elim}
-use mathlib.Core.List.{List, [], _∷_, _++_, map, append-cancel-left, List·Memᴰ·head, List·Memᴰ·tail, List·Memᴰ·not-nil, List·Memᴰ·append-cases, Memᴰ·of-map}
+use mathlib.Core.List.{List, [], _∷_, _++_, map, append-cancel-left, List·Memᴰ·head, List·Memᴰ·tail, List·Memᴰ·not-nil, List·Memᴰ·append-cases, Memᴰ·append-left, Memᴰ·append-right, Memᴰ·map, Memᴰ·of-map}
 use Prim.Native.Nat.{ℕ, suc, _*_}
 use native.Mathlib.Nat.{zero-mul, suc-mul}
 use native.Mathlib.Omega.{arith}
 use lib.ListN.{length, length-append, length-map}
 use lib.Seq.{take-at}
 use Rattle.rules.specs.Lists.{gather}
-use Rattle.rules.specs.RowsInOrder.{sorted}
-use Rattle.rules.proofs.Sets.{In, in-same, Each, each-head, each-tail, Increasing}
+use Rattle.rules.specs.RowsInOrder.{sorted, In, Each, Increasing}
+use Rattle.rules.specs.Removal.{crossed}
+use Rattle.rules.proofs.Sets.{in-same, each-head, each-tail}
 use Rattle.rules.proofs.Sorting.{insert-in, insert-length-most, insert-length-new, sorted-increasing, sorted-has, sorted-only, sorted-length, sorted-id}
 
 -- ---- no row comes again
@@ -45,10 +46,6 @@ append-once (once-cons {t} n o) p f = once-cons (λ m. ⊎-elim n (each-head f) 
 
 -- ---- each row with each end behind it
 
--- the rows, each with every one of the ends behind it
-abbrev pub crossed : List (List ℕ) → List (List ℕ) → List (List ℕ)
-crossed rows ends = gather (λ r. map (λ t. r ++ t) ends) rows
-
 -- such a row: a row and an end
 pub record Crossed (x : List ℕ) (rows ends : List (List ℕ)) : Type 0 where
   pub row : List ℕ
@@ -72,6 +69,12 @@ crossed-only {x} (r ∷ rows) ends m = ⊎-elim here (there (crossed-only rows e
     there rest m =
         let k = rest m in
         record { row = k .row; end = k .end; row-in = List·Memᴰ·tail (k .row-in); end-in = k .end-in; is = k .is }
+
+-- each row and end is there
+pub crossed-has : {row end : List ℕ} {rows ends : List (List ℕ)} → In row rows → In end ends → In (row ++ end) (crossed rows ends)
+unfolding gather
+crossed-has {ends} (List·Memᴰ·head {x} {xs = rows} e) n = rw e (Memᴰ·append-left (crossed rows ends) (Memᴰ·map (λ t. x ++ t) n))
+crossed-has {ends} (List·Memᴰ·tail {x} m) n = Memᴰ·append-right (map (λ t. x ++ t) ends) (crossed-has m n)
 
 -- they are as many as rows times ends
 pub crossed-length : (rows ends : List (List ℕ)) → length (crossed rows ends) ≡ length rows * length ends

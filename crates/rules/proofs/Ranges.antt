@@ -7,9 +7,8 @@ use native.Mathlib.Omega.{arith}
 use lib.ListN.{length, getD}
 use Rattle.rules.specs.declared.Ordering.the-variants.{Less}
 use Rattle.rules.specs.Lists.{from}
-use Rattle.rules.specs.RowsInOrder.{cmpRows}
+use Rattle.rules.specs.RowsInOrder.{cmpRows, Least, Increasing, increasing-nil, increasing-cons}
 use Rattle.rules.proofs.Order.{ComparedNumbers, under, even, above, compareNumbers}
-use Rattle.rules.proofs.Sets.{Least, Increasing, increasing-nil, increasing-cons}
 
 -- of the numbers from a on there are n
 pub from-length : (a n : ℕ) → length (from a n) ≡ n

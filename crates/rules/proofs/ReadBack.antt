@@ -18,11 +18,12 @@ use Rattle.rules.specs.Limits.{entryLimit}
 use Rattle.rules.specs.Lists.{all, gather}
 use Rattle.rules.specs.Buffers.{part}
 use Rattle.rules.specs.Layout.{Layout, rank, section, encode, soundLayout}
+use Rattle.rules.specs.Soundness.{Sound}
 use Rattle.rules.specs.Record.{walk, natural, naturals, entriesOf, entriesIn, layoutBy, layoutIn, soundFrom, sound, behindRecord}
 use Rattle.rules.proofs.Same.{both-true, true-not-false}
 use Rattle.rules.proofs.Buffers.{length-part}
 use Rattle.rules.proofs.RowsRead.{all-part, pos-naturals, naturals-take, rows-length, gather-rows}
-use Rattle.rules.proofs.Soundness.{Sound, sound-true}
+use Rattle.rules.proofs.Soundness.{sound-true}
 use Rattle.rules.proofs.Encoded.{headOf, walk-encode}
 use Rattle.rules.proofs.Walked.{Lies, Walked, walked}
 

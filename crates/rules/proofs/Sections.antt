@@ -14,8 +14,9 @@ use Rattle.rules.specs.declared.Section.the-variants.{Whole}
 use Rattle.rules.specs.Limits.{entryLimit}
 use Rattle.rules.specs.Lists.{all, gather}
 use Rattle.rules.specs.Buffers.{part}
+use Rattle.rules.specs.RowsInOrder.{Each}
 use Rattle.rules.specs.Record.{entriesFrom, sectionAt, natural, naturals, rowsOf, entriesOf}
-use Rattle.rules.proofs.Sets.{Each, each-head, each-tail}
+use Rattle.rules.proofs.Sets.{each-head, each-tail}
 
 -- ---- natural numbers in a slice
 

@@ -2,20 +2,16 @@
 use mathlib.Core.Path.{_≡_, refl, sym, _∙_, subst}
 use mathlib.Core.Bool.{Bool, true, false, _||_}
 use mathlib.Core.Logic.{_⊎_, inl, inr, ⊎-elim}
-use mathlib.Core.List.{List, [], _∷_, _++_, List·Memᴰ, List·Memᴰ·head, List·Memᴰ·tail, List·Memᴰ·cases-cons, List·Memᴰ·not-nil, List·Memᴰ·append-cases, Memᴰ·cast, Memᴰ·append-left, Memᴰ·append-right}
+use mathlib.Core.List.{List, [], _∷_, _++_, List·Memᴰ·head, List·Memᴰ·tail, List·Memᴰ·cases-cons, List·Memᴰ·not-nil, List·Memᴰ·append-cases, Memᴰ·cast, Memᴰ·append-left, Memᴰ·append-right}
 use Prim.Native.Nat.{ℕ}
 use Rattle.rules.specs.declared.Ordering.{Ordering}
 use Rattle.rules.specs.declared.Ordering.the-variants.{Less, Equal, Greater}
 use Rattle.rules.specs.Lists.{any, same}
-use Rattle.rules.specs.RowsInOrder.{cmpRows, isLess, increasing, among}
+use Rattle.rules.specs.RowsInOrder.{cmpRows, isLess, increasing, among, In, Each, Least, Increasing, increasing-nil, increasing-cons}
 use Rattle.rules.proofs.Order.{cmp-less-trans, less-not-same, cmp-less-flip, less-not-greater}
 use Rattle.rules.proofs.Same.{both-true, true-not-false, same-true, same-refl}
 
 -- ---- which rows
-
--- the row r is one of t
-abbrev pub In : List ℕ → List (List ℕ) → Type 0
-In r t = List·Memᴰ r t
 
 -- the same row is one of t
 pub in-same : {r x : List ℕ} {t : List (List ℕ)} → x ≡ r → In r t → In x t
@@ -55,10 +51,6 @@ in-or-not r t = go (among r t) refl
 
 -- ---- what holds of every row
 
--- P holds of every row of t
-abbrev pub Each : (List ℕ → Type 0) → List (List ℕ) → Type 0
-Each P t = (r : List ℕ) → In r t → P r
-
 -- P holds of every row of none
 pub each-nil : (P : List ℕ → Type 0) → Each P []
 each-nil P r m = absurd (List·Memᴰ·not-nil m)
@@ -93,15 +85,6 @@ abbrev pub Subset : List (List ℕ) → List (List ℕ) → Type 0
 Subset a b = Each (λ r. In r b) a
 
 -- ---- rows that increase
-
--- x is less than each row of t
-abbrev pub Least : List ℕ → List (List ℕ) → Type 0
-Least x t = Each (λ y. cmpRows x y ≡ Less) t
-
--- each row is less than all that follow
-pub data Increasing : List (List ℕ) → Type 0 where
-  increasing-nil : Increasing []
-  increasing-cons : {x : List ℕ} {t : List (List ℕ)} → Least x t → Increasing t → Increasing (x ∷ t)
 
 -- one row increases
 pub one-increasing : (x : List ℕ) → Increasing (x ∷ [])

@@ -1,6 +1,6 @@
 -- What a sound layout is, part by part. Assumes nothing.
 use mathlib.Core.Path.{_≡_, refl, ap}
-use mathlib.Core.Bool.{Bool, true, not, _||_}
+use mathlib.Core.Bool.{Bool, true, _||_}
 use mathlib.Core.List.{List, [], _∷_}
 use Prim.Native.Nat.{ℕ, zero, suc, _≤_, _<_}
 use native.Mathlib.Omega.{arith}
@@ -8,20 +8,16 @@ use borrow.Author.Tests.{leb-true, le-leb, eqb-true, eq-eqb, eqb-false, ne-eqb}
 use lib.ListN.{length, getD, take}
 use lib.Dec.{eqb, leb}
 use Rattle.rules.specs.Limits.{rankLimit, entryLimit, productLimit, componentLimit}
-use Rattle.rules.specs.Lists.{implies, all, none, keep, product, allBelow}
-use Rattle.rules.specs.RowsInOrder.{increasing, sorted}
-use Rattle.rules.specs.Layout.{Layout, rank, width, isDense, isDiagonal, isSparse, withinProduct, distinct, rowFits, alike, diagonalFits, depsFit, wellFormed, few, depsSmall, withinSizes, soundLayout}
+use Rattle.rules.specs.Lists.{implies, all, none, allBelow}
+use Rattle.rules.specs.RowsInOrder.{increasing, sorted, In, Increasing, increasing-nil}
+use Rattle.rules.specs.Layout.{Layout, rank, width, isDense, isDiagonal, isSparse, nonzeroProduct, withinProduct, distinct, rowFits, alike, diagonalFits, depsFit, wellFormed, few, depsSmall, withinSizes, soundLayout}
+use Rattle.rules.specs.Soundness.{DepsFit, DepsSmall, WellFormed, WithinSizes, Sound}
 use Rattle.rules.proofs.Same.{both-true}
-use Rattle.rules.proofs.Sets.{In, Each, Increasing, increasing-nil, increasing-true, true-increasing}
+use Rattle.rules.proofs.Sets.{increasing-true, true-increasing}
 use Rattle.rules.proofs.Sorting.{sorted-id}
 use Rattle.rules.proofs.Tests.{conjunct, true-both, true-implies, true-either, none-true, all-each, each-all}
 
 -- ---- dependencies
-
--- dependencies have R components and a number, and increase
-pub record DepsFit (l : Layout) (deps : List (List ℕ)) : Type 0 where
-  pub lengths : Each (λ d. length d ≡ suc (rank l)) deps
-  pub increase : Increasing deps
 
 -- dependencies that test so fit
 pub deps-fit-true : (l : Layout) (deps : List (List ℕ)) → depsFit l deps ≡ true → DepsFit l deps
@@ -36,10 +32,6 @@ deps-fit-true l deps e =
 pub true-deps-fit : {l : Layout} {deps : List (List ℕ)} → DepsFit l deps → depsFit l deps ≡ true
 true-deps-fit {l} {deps} f =
     true-both (each-all _ deps (λ d m. eq-eqb (length d) (suc (rank l)) (f .lengths d m))) (true-increasing (f .increase))
-
--- each component of a dependency is at most 65,535
-abbrev pub DepsSmall : Layout → List (List ℕ) → Type 0
-DepsSmall l deps = Each (λ d. (k : ℕ) → k < rank l → getD d k 0 ≤ componentLimit) deps
 
 -- the first n numbers that test as small are
 small-at : (n : ℕ) (d : List ℕ) → all (λ c. leb c componentLimit) (take n d) ≡ true → (k : ℕ) → k < n → getD d k 0 ≤ componentLimit
@@ -65,22 +57,6 @@ pub true-deps-small : (l : Layout) (deps : List (List ℕ)) → DepsSmall l deps
 true-deps-small l deps f = each-all _ deps (λ d m. at-small (rank l) d (f d m))
 
 -- ---- soundness other than by size
-
--- kind at most 2, D at most R, R at most 4; rows only if sparse, no two equal, each of R - D numbers below the extents;
--- D is R if dense; R - D is at least 1 and its extents are equal if diagonal; dependencies of R + 1 numbers that increase
-pub record WellFormed (l : Layout) : Type 0 where
-  pub kind-most : l .kind ≤ 2
-  pub dense-most : l .dense ≤ rank l
-  pub rank-most : rank l ≤ rankLimit
-  pub sparse-rows : (l .kind ≡ 2 → ⊥) → l .rows ≡ []
-  pub rows-distinct : length (sorted (l .rows)) ≡ length (l .rows)
-  pub row-lengths : Each (λ r. length r ≡ width l) (l .rows)
-  pub rows-below : Each (λ r. allBelow r (l .shape) ≡ true) (l .rows)
-  pub dense-all : l .kind ≡ 0 → l .dense ≡ rank l
-  pub diagonal-wide : l .kind ≡ 1 → 1 ≤ width l
-  pub diagonal-alike : l .kind ≡ 1 → alike (take (width l) (l .shape)) ≡ true
-  pub states-fit : DepsFit l (l .states)
-  pub inputs-fit : DepsFit l (l .inputs)
 
 -- the tests of a well-formed layout behind the first one
 abbrev formTests : Layout → List Bool
@@ -151,15 +127,6 @@ true-well-formed {l} w =
 
 -- ---- soundness by size
 
--- the nonzero extents multiply to at most 65,536, each list has at most 128 entries, a dependency's components are small
-pub record WithinSizes (l : Layout) : Type 0 where
-  pub product-most : product (keep (λ e. not (eqb e 0)) (l .shape)) ≤ productLimit
-  pub rows-few : length (l .rows) ≤ entryLimit
-  pub states-few : length (l .states) ≤ entryLimit
-  pub inputs-few : length (l .inputs) ≤ entryLimit
-  pub states-small : DepsSmall l (l .states)
-  pub inputs-small : DepsSmall l (l .inputs)
-
 -- the tests of the sizes behind the first one
 abbrev sizeTests : Layout → List Bool
 sizeTests l = few (l .rows) ∷ few (l .states) ∷ few (l .inputs) ∷ depsSmall l (l .states) ∷ depsSmall l (l .inputs) ∷ []
@@ -168,7 +135,7 @@ sizeTests l = few (l .rows) ∷ few (l .states) ∷ few (l .inputs) ∷ depsSmal
 pub within-sizes-true : {l : Layout} → withinSizes l ≡ true → WithinSizes l
 unfolding withinSizes withinProduct
 within-sizes-true {l} e = record {
-  product-most = leb-true (product (keep (λ e. not (eqb e 0)) (l .shape))) productLimit (test 0);
+  product-most = leb-true (nonzeroProduct (l .shape)) productLimit (test 0);
   rows-few = leb-true (length (l .rows)) entryLimit (test 1);
   states-few = leb-true (length (l .states)) entryLimit (test 2);
   inputs-few = leb-true (length (l .inputs)) entryLimit (test 3);
@@ -184,7 +151,7 @@ pub true-within-sizes : {l : Layout} → WithinSizes l → withinSizes l ≡ tru
 unfolding withinSizes withinProduct
 true-within-sizes {l} w =
     rw (
-      le-leb (product (keep (λ e. not (eqb e 0)) (l .shape))) productLimit (w .product-most),
+      le-leb (nonzeroProduct (l .shape)) productLimit (w .product-most),
       le-leb (length (l .rows)) entryLimit (w .rows-few),
       le-leb (length (l .states)) entryLimit (w .states-few),
       le-leb (length (l .inputs)) entryLimit (w .inputs-few),
@@ -193,11 +160,6 @@ true-within-sizes {l} w =
     )
 
 -- ---- soundness
-
--- both of them
-pub record Sound (l : Layout) : Type 0 where
-  pub form : WellFormed l
-  pub sizes : WithinSizes l
 
 -- a layout that tests as sound is
 pub sound-true : {l : Layout} → soundLayout l ≡ true → Sound l

@@ -10,14 +10,16 @@ use Rattle.rules.specs.Lists.{if, same}
 use Rattle.rules.specs.RowsInOrder.{sorted, merge}
 use Rattle.rules.specs.Refusals.{given, refused, _then_, _when_, lowest}
 use Rattle.rules.specs.Layout.{Layout, rank, isDense, few, withDeps, made}
+use Rattle.rules.specs.Soundness.{Sound}
 use Rattle.rules.specs.CountsAndForms.{toDense}
-use Rattle.rules.specs.Removal.{lowered, lowerD, listsRow, barsExpansion}
-use Rattle.rules.specs.Union.{withMerged, alikeDiagonals, joined, unionOfRows, union}
+use Rattle.rules.specs.Removal.{listsRow}
+use Rattle.rules.specs.Pairs.{withMerged, alikeDiagonals, lowered, lowerD, barsExpansion, unlessDenseRemoved}
+use Rattle.rules.specs.Union.{joined, unionOfRows, union}
 use Rattle.rules.proofs.Same.{neither, true-not-false, same-true}
 use Rattle.rules.proofs.Sets.{each-nil, each-append}
 use Rattle.rules.proofs.Sorting.{sorted-each, sorted-sorted}
 use Rattle.rules.proofs.Merging.{merge-length-left, merge-length-right}
-use Rattle.rules.proofs.Soundness.{Sound}
+use Rattle.rules.proofs.DenseRemoved.{none-removed, before-removed}
 use Rattle.rules.proofs.Once.{Once, once-distinct}
 use Rattle.rules.proofs.Made.{fewOr, Formed, sound-formed, formed-made, made-sound, formed-merged}
 use Rattle.rules.proofs.Lowering.{Lowered, lowered-is}
@@ -159,16 +161,30 @@ module _ {a b : Layout} (p : Sound a) (q : Sound b) (e : same (a .shape) (b .sha
       right = lowered-is (q .form) (eqb-false (b .kind) 0 (plain .1)) (omega arith) (free .1) (bare .1)
 
       judged : (t : Bool) → few (x .rows) && few (y .rows) ≡ t →
-          (lowest (13 when not t ∷ []) then λ _. made (withMerged a b (joined x y))) ≡ fewOr (withMerged a b (joined x y))
-      judged true k = formed-made (formed-merged p q (ap length (left .shape-is)) (ap length (left .shape-is) ∙ ranks) (joined-formed p (same-true e) (omega arith) left right))
+          (lowest (13 when not t ∷ []) then λ _. made (withMerged a b (joined x y)) then λ l. unlessDenseRemoved a b l) ≡ fewOr (withMerged a b (joined x y))
+      judged true k = none-removed a b f (made (withMerged a b (joined x y))) ∙ formed-made (formed-merged p q (ap length (left .shape-is)) (ap length (left .shape-is) ∙ ranks) (joined-formed p (same-true e) (omega arith) left right))
       judged false k = rw (few-joined (left .rows-once) (right .rows-once) k)
 
 -- ---- what is given
 
--- an answer is a layout with the merged dependencies that was made
-pub union-made : (a b : Layout) {l : Layout} → union a b ≡ given l → (x : Layout) × (made (withMerged a b x) ≡ given l)
+-- what a union is made of, but for its dependencies: a dense one, two diagonals with equal D, or rows
+pub data United (a b : Layout) : Layout → Type 0 where
+  of-dense : isDense a || isDense b ≡ true → United a b (toDense a)
+  of-diagonals : alikeDiagonals a b ≡ true → United a b a
+  of-rows : isDense a || isDense b ≡ false → barsExpansion a || barsExpansion b ≡ false → listsRow a (lowerD a b) || listsRow b (lowerD a b) ≡ false →
+      United a b (joined (lowered a (lowerD a b)) (lowered b (lowerD a b)))
+
+-- the shapes are equal, and what it is made of was made with the merged dependencies
+pub record Gives (a b l : Layout) : Type 0 where
+  pub shapes : a .shape ≡ b .shape
+  pub whole : Layout
+  pub united : United a b whole
+  pub was-made : made (withMerged a b whole) ≡ given l
+
+-- an answer of `union` is such
+pub union-gives : (a b : Layout) {l : Layout} → union a b ≡ given l → Gives a b l
 unfolding union unionOfRows lowest
-union-made a b {l} e = whole (same (a .shape) (b .shape)) (isDense a || isDense b) (alikeDiagonals a b) e
+union-gives a b {l} e = go (same (a .shape) (b .shape)) (isDense a || isDense b) (alikeDiagonals a b) refl refl refl e
   where
     d : ℕ
     d = lowerD a b
@@ -176,23 +192,23 @@ union-made a b {l} e = whole (same (a .shape) (b .shape)) (isDense a || isDense 
     rows : Layout
     rows = joined (lowered a d) (lowered b d)
 
-    by-rows : (s t u : Bool) → (lowest (11 when s ∷ 12 when t ∷ 13 when u ∷ []) then λ _. made (withMerged a b rows)) ≡ given l →
-        (x : Layout) × (made (withMerged a b x) ≡ given l)
-    by-rows true t u e = absurd (never e)
-    by-rows false true u e = absurd (never e)
-    by-rows false false true e = absurd (never e)
-    by-rows false false false e = (rows, e)
+    by-rows : a .shape ≡ b .shape → isDense a || isDense b ≡ false → (s t u : Bool) → barsExpansion a || barsExpansion b ≡ s → listsRow a d || listsRow b d ≡ t →
+        (lowest (11 when s ∷ 12 when t ∷ 13 when u ∷ []) then λ _. made (withMerged a b rows) then λ x. unlessDenseRemoved a b x) ≡ given l → Gives a b l
+    by-rows k f true t u g h e = absurd (never e)
+    by-rows k f false true u g h e = absurd (never e)
+    by-rows k f false false true g h e = absurd (never e)
+    by-rows k f false false false g h e = record { shapes = k; whole = rows; united = of-rows f g h; was-made = before-removed a b (made (withMerged a b rows)) e }
 
-    whole : (s t u : Bool) → (lowest (6 when not s ∷ []) then λ _. if t (made (withMerged a b (toDense a))) (if u (made (withMerged a b a)) (unionOfRows a b))) ≡ given l →
-        (x : Layout) × (made (withMerged a b x) ≡ given l)
-    whole false t u e = absurd (never e)
-    whole true true u e = (toDense a, e)
-    whole true false true e = (a, e)
-    whole true false false e = by-rows (barsExpansion a || barsExpansion b) (listsRow a d || listsRow b d) (not (few (lowered a d .rows) && few (lowered b d .rows))) e
+    go : (s t u : Bool) → same (a .shape) (b .shape) ≡ s → isDense a || isDense b ≡ t → alikeDiagonals a b ≡ u →
+        (lowest (6 when not s ∷ []) then λ _. if t (made (withMerged a b (toDense a))) (if u (made (withMerged a b a)) (unionOfRows a b))) ≡ given l → Gives a b l
+    go false t u k f g e = absurd (never e)
+    go true true u k f g e = record { shapes = same-true k; whole = toDense a; united = of-dense f; was-made = e }
+    go true false true k f g e = record { shapes = same-true k; whole = a; united = of-diagonals g; was-made = e }
+    go true false false k f g e =
+        by-rows (same-true k) f (barsExpansion a || barsExpansion b) (listsRow a d || listsRow b d) (not (few (lowered a d .rows) && few (lowered b d .rows))) refl refl e
 
 -- an answer is sound
 pub union-sound : (a b : Layout) {l : Layout} → union a b ≡ given l → Sound l
 union-sound a b e =
-    let m = union-made a b e in
-    let s = made-sound (m .1) in
+    let s = made-sound (union-gives a b e .was-made) in
     subst Sound (s .0) (s .1)

@@ -1,5 +1,6 @@
 -- Positions worked by hand, in one table; each holds by computation. Assumes nothing.
 use mathlib.Core.Path.{_≡_, refl}
+use mathlib.Core.Bool.{true, false}
 use mathlib.Core.List.{List, [], _∷_}
 use Prim.Native.Nat.{ℕ}
 use lib.IntN.{pos}
@@ -17,7 +18,9 @@ use Rattle.rules.specs.Dependencies.{onIndex, held, filterDeps}
 use Rattle.rules.specs.Lookup.{readIndex, placeFrom, placeOf, lookup, findNnzIndexCall}
 use Rattle.rules.specs.CountsAndForms.{minRankOf, toDense, denseIfFull, dense}
 use Rattle.rules.specs.Stretching.{sharedAxesFit, stretchedAxes, everyValue, takeAll, stretchRows, stretchDeps, stretched, broadcastToShape}
-use Rattle.rules.specs.Removal.{positions, removedRows, removedDeps, listsRow, removeDenseAxes, expanded, lowered}
+use Rattle.rules.specs.Removal.{positions, removedRows, removedDeps, listsRow, removeDenseAxes}
+use Rattle.rules.specs.Holding.{holds, heldPositions}
+use Rattle.rules.specs.Pairs.{lowered, expanded}
 use Rattle.rules.specs.Union.{unionOfRows, union}
 use Rattle.rules.specs.Intersect.{intersect}
 use Rattle.rules.specs.ContractLastAxis.{shortenedDeps, contracted, contractLastAxis}
@@ -69,6 +72,18 @@ pub record Table : Type 0 where
   -- a lowered union: dependencies are merged as they are, not expanded
   pub unexpanded : union (layout 2 1 (two 2 2) ((1 ∷ []) ∷ []) ((1 ∷ 0 ∷ 7 ∷ []) ∷ [])) (layout 2 0 (two 2 2) (two 1 0 ∷ []) [])
       ≡ given (layout 2 0 (two 2 2) (two 1 0 ∷ two 1 1 ∷ []) ((1 ∷ 0 ∷ 7 ∷ []) ∷ []))
+  -- a dense layout handed to removal is 14, where nothing lower holds
+  pub dense-removed : unionOfRows (dense (2 ∷ [])) (layout 2 0 (2 ∷ []) ((1 ∷ []) ∷ []) []) ≡ refused 14
+  pub row-outside-first : unionOfRows (dense (2 ∷ [])) (layout 2 0 (2 ∷ []) ((2 ∷ []) ∷ []) []) ≡ refused 12
+  -- a sparse [2,3] with a dense axis and the row [1] holds every position behind it, and no other
+  pub holds-behind-row : holds (layout 2 1 (two 2 3) ((1 ∷ []) ∷ []) []) (two 1 2) ≡ true
+  pub holds-no-row : holds (layout 2 1 (two 2 3) ((1 ∷ []) ∷ []) []) (two 0 2) ≡ false
+  pub holds-outside : holds (layout 2 1 (two 2 3) ((1 ∷ []) ∷ []) []) (two 1 3) ≡ false
+  -- a diagonal [2,2,3] with a dense axis holds the positions whose first two components are equal
+  pub holds-on-diagonal : holds (layout 1 1 (2 ∷ 2 ∷ 3 ∷ []) [] []) (1 ∷ 1 ∷ 2 ∷ []) ≡ true
+  pub holds-off-diagonal : holds (layout 1 1 (2 ∷ 2 ∷ 3 ∷ []) [] []) (1 ∷ 0 ∷ 2 ∷ []) ≡ false
+  -- all positions held, in order: two rows out of order, each with the two values of the dense axis
+  pub positions-in-order : heldPositions (layout 2 1 (two 3 2) ((2 ∷ []) ∷ (0 ∷ []) ∷ []) []) ≡ (two 0 0 ∷ two 0 1 ∷ two 2 0 ∷ two 2 1 ∷ [])
 
 pub table : Table
 unfolding all any keep gather none from product sum largest same sameRows allBelow with fitTo part
@@ -77,7 +92,7 @@ unfolding all any keep gather none from product sum largest same sameRows allBel
     extents commonShape shapesAgree broadcastShapes ravelIndex onIndex held filterDeps
     readIndex placeFrom placeOf lookup findNnzIndexCall minRankOf toDense denseIfFull dense
     sharedAxesFit stretchedAxes everyValue takeAll stretchRows stretchDeps stretched broadcastToShape
-    positions removedRows removedDeps listsRow removeDenseAxes expanded lowered unionOfRows union intersect
+    positions removedRows removedDeps listsRow removeDenseAxes holds expanded lowered unionOfRows union intersect
     shortenedDeps contracted contractLastAxis repeats isPermutation movedTo moved permuted permute
     concatenate cutDeps filterDepsFrom
 table = record {
@@ -95,4 +110,12 @@ table = record {
   p9-lookup = refl;
   unfiltered = refl;
   unexpanded = refl;
+  dense-removed = refl;
+  row-outside-first = refl;
+  holds-behind-row = refl;
+  holds-no-row = refl;
+  holds-outside = refl;
+  holds-on-diagonal = refl;
+  holds-off-diagonal = refl;
+  positions-in-order = refl;
 }

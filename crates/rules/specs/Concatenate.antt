@@ -14,7 +14,8 @@ use Rattle.rules.specs.Record.{natural, naturals, layoutIn, sound, RawBl
 use Rattle.rules.specs.Arguments.{overCount, overRank, overRecord, shortResult, shortWork, goodEnd, goodFlag}
 use Rattle.rules.specs.Dependencies.{onIndex}
 use Rattle.rules.specs.CountsAndForms.{dense, newScalar, denseIfFull}
-use Rattle.rules.specs.Removal.{positions, expanded}
+use Rattle.rules.specs.Removal.{positions}
+use Rattle.rules.specs.Pairs.{expanded}
 
 -- where a block starts, whether it is flagged as zero, and its layout
 pub record Block : Type 0 where

@@ -50,9 +50,13 @@ withDeps states inputs l = record {
 
 -- ---- soundness
 
--- the product of the nonzero extents is at most 65,536
+-- the product of the nonzero extents
+abbrev pub nonzeroProduct : List ℕ → ℕ
+nonzeroProduct shape = product (keep (λ e. not (eqb e 0)) shape)
+
+-- it is at most 65,536
 unfoldable pub withinProduct : List ℕ → Bool
-withinProduct shape = leb (product (keep (λ e. not (eqb e 0)) shape)) productLimit
+withinProduct shape = leb (nonzeroProduct shape) productLimit
 
 -- no two rows are equal: sorted once each, they are as many
 abbrev pub distinct : List (List ℕ) → Bool

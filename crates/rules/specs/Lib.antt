@@ -5,6 +5,7 @@ pub mod Buffers
 pub mod RowsInOrder
 pub mod Refusals
 pub mod Layout
+pub mod Soundness
 pub mod Record
 pub mod Arguments
 pub mod Endings
@@ -15,6 +16,8 @@ pub mod Lookup
 pub mod CountsAndForms
 pub mod Stretching
 pub mod Removal
+pub mod Holding
+pub mod Pairs
 pub mod Union
 pub mod Intersect
 pub mod ContractLastAxis

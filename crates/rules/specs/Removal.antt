@@ -1,12 +1,12 @@
--- Module 7, removal: dense axes of a sparse layout become listed ones. 14 is never reached: a dense layout is not handed to it.
+-- Module 7, removal: dense axes of a sparse layout become listed ones.
 use mathlib.Core.Bool.{Bool, not, _&&_}
 use mathlib.Core.List.{List, [], _∷_, _++_, map}
-use Prim.Native.Nat.{ℕ, min, _-_}
-use lib.ListN.{getD, take, drop, replicate}
+use Prim.Native.Nat.{ℕ, _-_}
+use lib.ListN.{take, drop}
 use lib.Dec.{ltb}
-use Rattle.rules.specs.Lists.{if, none, gather, below}
+use Rattle.rules.specs.Lists.{none, gather, below}
 use Rattle.rules.specs.RowsInOrder.{sortedFew}
-use Rattle.rules.specs.Layout.{Layout, rank, isDiagonal, few}
+use Rattle.rules.specs.Layout.{Layout, rank, width, isDense}
 use Rattle.rules.specs.Dependencies.{onIndex}
 
 -- every index of a shape, in order
@@ -22,9 +22,17 @@ keptAxes l new = rank l - (l .dense - new)
 abbrev pub lastPositions : Layout → ℕ → List (List ℕ)
 lastPositions l new = positions (drop (keptAxes l new) (l .shape))
 
+-- the rows, each with every one of the ends behind it
+abbrev pub crossed : List (List ℕ) → List (List ℕ) → List (List ℕ)
+crossed rows ends = gather (λ r. map (λ t. r ++ t) ends) rows
+
 -- each row gets every value on the last axes
 unfoldable pub removedRows : Layout → ℕ → List (List ℕ)
-removedRows l new = gather (λ r. map (λ t. r ++ t) (lastPositions l new)) (l .rows)
+removedRows l new = crossed (l .rows) (lastPositions l new)
+
+-- each row with every index of the dense axes behind it
+abbrev pub fullRows : Layout → List (List ℕ)
+fullRows l = crossed (l .rows) (positions (drop (width l) (l .shape)))
 
 -- and so does each dependency
 unfoldable pub removedDeps : Layout → ℕ → List (List ℕ) → List (List ℕ)
@@ -35,6 +43,10 @@ removedDeps l new deps =
 unfoldable pub listsRow : Layout → ℕ → Bool
 listsRow l new = ltb 0 new && ltb new (l .dense) && not (none (removedRows l new))
 
+-- 14: the layout is dense, and its D is to be lowered
+abbrev pub removesDense : Layout → ℕ → Bool
+removesDense l new = isDense l && ltb new (l .dense)
+
 unfoldable pub removeDenseAxes : Layout → ℕ → Layout
 removeDenseAxes l new = record {
   kind = l .kind;
@@ -44,32 +56,3 @@ removeDenseAxes l new = record {
   states = removedDeps l new (l .states);
   inputs = removedDeps l new (l .inputs);
 }
-
--- ---- what `union` and `intersect` make of a layout that is not dense
-
--- a diagonal expands to the rows (i,..,i)
-unfoldable pub expanded : Layout → Layout
-expanded l = record {
-  kind = 2;
-  dense = l .dense;
-  shape = l .shape;
-  rows = map (λ i. replicate (rank l) i) (below (getD (l .shape) 0 0));
-  states = l .states;
-  inputs = l .inputs;
-}
-
--- diagonals expand, and the larger D is lowered
-unfoldable pub lowered : Layout → ℕ → Layout
-lowered l new = if (isDiagonal l) (expanded l) (if (ltb new (l .dense)) (removeDenseAxes l new) l)
-
--- the smaller D of two layouts
-abbrev pub lowerD : Layout → Layout → ℕ
-lowerD a b = min (a .dense) (b .dense)
-
--- 11: a diagonal with dense axes does not expand
-abbrev pub barsExpansion : Layout → Bool
-barsExpansion l = isDiagonal l && ltb 0 (l .dense)
-
--- 13: an expansion is counted when it is done
-abbrev pub fewOf : Layout → Bool
-fewOf l = few (l .rows) && few (l .states) && few (l .inputs)

@@ -1,25 +1,17 @@
 -- Module 8, `union`: the positions that either of two layouts holds. The whole union is one step.
-use mathlib.Core.Bool.{Bool, not, _&&_, _||_}
+use mathlib.Core.Bool.{not, _&&_, _||_}
 use mathlib.Core.List.{List, [], _∷_}
 use Prim.Native.Nat.{ℕ}
-use lib.Dec.{eqb}
 use lib.IntN.{ℤ}
 use Rattle.rules.specs.Lists.{if, same}
 use Rattle.rules.specs.RowsInOrder.{merge}
 use Rattle.rules.specs.Refusals.{Verdict, _then_, _when_, lowest}
-use Rattle.rules.specs.Layout.{Layout, isDense, isDiagonal, few, withDeps, made}
+use Rattle.rules.specs.Layout.{Layout, isDense, few, made}
 use Rattle.rules.specs.Record.{layoutIn, sound}
 use Rattle.rules.specs.Arguments.{overRecord, shortResult, shortWork}
 use Rattle.rules.specs.CountsAndForms.{toDense}
-use Rattle.rules.specs.Removal.{lowered, lowerD, listsRow, barsExpansion}
-
--- a layout with the dependencies of two merged
-abbrev pub withMerged : Layout → Layout → Layout → Layout
-withMerged a b l = withDeps (merge (a .states) (b .states)) (merge (a .inputs) (b .inputs)) l
-
--- two diagonals with equal D
-abbrev pub alikeDiagonals : Layout → Layout → Bool
-alikeDiagonals a b = isDiagonal a && isDiagonal b && eqb (a .dense) (b .dense)
+use Rattle.rules.specs.Removal.{listsRow}
+use Rattle.rules.specs.Pairs.{withMerged, alikeDiagonals, lowered, lowerD, barsExpansion, unlessDenseRemoved}
 
 -- the rows of both joined, sorted, once each; sparse even when full
 abbrev pub joined : Layout → Layout → Layout
@@ -43,6 +35,7 @@ unionOfRows a b =
     ∷ 12 when (listsRow a d || listsRow b d)
     ∷ 13 when not (few (x .rows) && few (y .rows)) ∷ [])
     then λ _. made (withMerged a b (joined x y))
+    then λ l. unlessDenseRemoved a b l
 
 -- unequal shapes 6; dependencies are merged first and NOT expanded; a dense one wins; two diagonals with equal D give a diagonal
 unfoldable pub union : Layout → Layout → Verdict Layout

@@ -19,9 +19,9 @@ use Rattle.rules.specs.declared.Section.the-variants.{Whole, Cut}
 use Rattle.rules.specs.Limits.{productLimit}
 use Rattle.rules.specs.Lists.{if, all}
 use Rattle.rules.specs.Buffers.{part}
-use Rattle.rules.specs.Layout.{withinProduct}
+use Rattle.rules.specs.Layout.{withinProduct, nonzeroProduct}
 use Rattle.rules.specs.Record.{natural, naturals, entriesFrom, sectionAt, goodExtents, goodShape, shapeIn, behindShape}
-use Rattle.rules.proofs.Extents.{nonzeroProduct, extent-nonzero}
+use Rattle.rules.proofs.Extents.{extent-nonzero}
 use Rattle.rules.proofs.Same.{both-true, true-not-false}
 use Rattle.cells.specs.View.{view, Low}
 use Rattle.records.specs.Sections.{Laid, SectionIn}

@@ -10,10 +10,10 @@ use Rattle.rules.specs.declared.Ordering.{Ordering}
 use Rattle.rules.specs.declared.Ordering.the-variants.{Less, Equal, Greater}
 use Rattle.rules.specs.Buffers.{part, put}
 use Rattle.rules.specs.Lists.{any, keep, same}
-use Rattle.rules.specs.RowsInOrder.{cmpRows, among}
+use Rattle.rules.specs.RowsInOrder.{cmpRows, among, In, Increasing}
 use Rattle.rules.proofs.Order.{cmp-equal, cmp-greater-flip, less-not-same}
 use Rattle.rules.proofs.Same.{same-true}
-use Rattle.rules.proofs.Sets.{In, among-in, in-among, Increasing, head-least, next-increasing}
+use Rattle.rules.proofs.Sets.{among-in, in-among, head-least, next-increasing}
 use Rattle.rules.proofs.Keeping.{keep-pass, keep-fail, keep-length}
 use Rattle.tables.specs.Rows.{rowAt, rowsAt}
 use Rattle.tables.specs.Tables.{tableAt, nextOf, common, Common}

@@ -10,9 +10,9 @@ use lib.Dec.{eqb}
 use lib.IntN.{ℤ}
 use lib.ListN.{length, getD}
 use Rattle.rules.specs.Lists.{same}
-use Rattle.rules.specs.RowsInOrder.{increasing, sorted}
+use Rattle.rules.specs.RowsInOrder.{increasing, sorted, In}
 use Rattle.rules.proofs.Same.{same-true, same-refl, true-not-false}
-use Rattle.rules.proofs.Sets.{In, in-same, increasing-true}
+use Rattle.rules.proofs.Sets.{in-same, increasing-true}
 use Rattle.rules.proofs.Sorting.{insert-length-most, insert-length-new, insert-in, sorted-increasing, sorted-has, sorted-only, sorted-length}
 use Rattle.rules.proofs.Places.{in-at, nowhere}
 use Rattle.rules.proofs.Soundness.{increasing-distinct}

@@ -7,8 +7,8 @@ use native.Mathlib.Omega.{arith}
 use borrow.Author.Tests.{leb-true}
 use lib.IntN.{ℤ, pos}
 use lib.ListN.{length, set, length-set}
-use Rattle.rules.specs.RowsInOrder.{insert, merge, among}
-use Rattle.rules.proofs.Sets.{Each, each-nil, each-append, Increasing, increasing-nil}
+use Rattle.rules.specs.RowsInOrder.{insert, merge, among, Each, Increasing, increasing-nil}
+use Rattle.rules.proofs.Sets.{each-nil, each-append}
 use Rattle.rules.proofs.Sorting.{insert-each, insert-increasing, sorted-each, sorted-increasing, sorted-length}
 use Rattle.rules.proofs.Keeping.{keep-only, keep-increasing, keep-length}
 use Rattle.cells.specs.View.{Low}

@@ -8,9 +8,10 @@ use lib.IntN.{ℤ}
 use lib.ListN.{length, getD, take, drop}
 use lib.Seq.{getD-take, getD-drop, drop-drop, take-at, drop-at}
 use Rattle.rules.specs.Buffers.{part, put}
+use Rattle.rules.specs.RowsInOrder.{In}
 use Rattle.rules.specs.Record.{rowsOf}
 use Rattle.rules.proofs.Buffers.{length-part, part-put-all}
-use Rattle.rules.proofs.Sets.{In, each-head, each-tail}
+use Rattle.rules.proofs.Sets.{each-head, each-tail}
 use Rattle.rules.proofs.Places.{in-at}
 use Rattle.rules.proofs.RowsRead.{rows-length, rows-row, rows-cut}
 use Rattle.cells.specs.View.{view}

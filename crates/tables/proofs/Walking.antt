@@ -10,10 +10,10 @@ use lib.ListN.{length, getD, set}
 use Rattle.rules.specs.declared.Ordering.{Ordering}
 use Rattle.rules.specs.declared.Ordering.the-variants.{Less, Equal, Greater}
 use Rattle.rules.specs.Buffers.{part, put}
-use Rattle.rules.specs.RowsInOrder.{cmpRows}
+use Rattle.rules.specs.RowsInOrder.{cmpRows, Increasing}
 use Rattle.rules.proofs.Buffers.{length-part}
 use Rattle.rules.proofs.Order.{less-not-equal, less-not-greater, greater-not-equal}
-use Rattle.rules.proofs.Sets.{Increasing, tail-increasing}
+use Rattle.rules.proofs.Sets.{tail-increasing}
 use Rattle.cells.specs.View.{view}
 use Rattle.tables.specs.Rows.{rowAt, rowsAt, HasRow, HasRows}
 use Rattle.tables.specs.Tables.{tableAt, roomEnd, Only, Disjoint, Ready, PairAsked, nextOf}

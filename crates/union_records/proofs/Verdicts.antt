@@ -17,11 +17,11 @@ use Rattle.rules.specs.Lists.{none}
 use Rattle.rules.specs.Buffers.{over}
 use Rattle.rules.specs.Refusals.{Verdict, given, refused, inForm, numberOf, _then_, _when_, lowest}
 use Rattle.rules.specs.Layout.{Layout, encode}
+use Rattle.rules.specs.Soundness.{Sound}
 use Rattle.rules.specs.Record.{layoutIn, sound, behindRecord}
 use Rattle.rules.specs.Arguments.{overRecord, shortResult, shortWork}
 use Rattle.rules.specs.Endings.{resultAfter, writtenSays, Ends}
 use Rattle.rules.specs.Union.{union, unionCall}
-use Rattle.rules.proofs.Soundness.{Sound}
 use Rattle.rules.proofs.Encoded.{encode-short, layout-alone, sound-alone}
 use Rattle.rules.proofs.Unions.{never, union-sound}
 use Rattle.cells.proofs.Signed.{held, back}

@@ -7,7 +7,8 @@ use Rattle.rules.specs.RowsInOrder.{cmpRows, increasing, insert, sorted, sorted
 use Rattle.rules.specs.Refusals.{lowest}
 use Rattle.rules.specs.Layout.{withinProduct, wellFormed, withinSizes, soundLayout, made}
 use Rattle.rules.specs.Record.{entriesFrom, sectionAt, walk, natural, rowsOf, entriesOf, layoutBy, layoutIn, sound, behindRecord}
-use Rattle.rules.specs.Removal.{positions, removedRows, removeDenseAxes, listsRow, lowered}
+use Rattle.rules.specs.Removal.{positions, removedRows, removeDenseAxes, listsRow}
+use Rattle.rules.specs.Pairs.{lowered}
 use Rattle.rules.specs.Union.{unionOfRows, union, unionCall}
 use Rattle.text.specs.Read.{valueFrom, wordOf, readFrom}
 use Rattle.text.specs.Written.{digitsIn, numberText, restText, lineText}
