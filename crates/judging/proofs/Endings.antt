@@ -17,10 +17,11 @@ use Rattle.rules.specs.Buffers.{over, zeros}
 use Rattle.rules.specs.Refusals.{Verdict, given, refused, inForm, numberOf, Reason, _when_, _then_, lowest}
 use Rattle.rules.specs.Layout.{Layout, encode}
 use Rattle.rules.specs.Endings.{Ends, resultAfter, workAfter}
+use Rattle.rules.proofs.Refusing.{Reasons, refusing-lowest}
 use Rattle.tables.specs.Tables.{Only}
 use Rattle.tables.proofs.Only.{only-same}
 use Rattle.parts.specs.Answers.{Says, Finished}
-use Rattle.parts.proofs.Ending.{Late, allLate, late-lowest, call-finished, call-refused}
+use Rattle.parts.proofs.Ending.{AboveTwo, Late, call-finished, call-refused}
 use Rattle.judging.specs.LentSizes.{sizeReasons, SizesKept, SizesRefused}
 
 -- 1 or 2 is given, whatever other reasons there are
@@ -37,8 +38,8 @@ unfolding lowest
 others {m = m} {n = n} rest k = rw (k .not-over, le-ltb m resultSize (k .result-long), le-ltb n workSize (k .work-long))
 
 -- a number that reasons above 2 give is above 2
-number-late : (rest : List Reason) {n : ℕ} → allLate rest ≡ true → lowest rest ≡ refused n → 3 ≤ n
-number-late rest late e = subst Late e (late-lowest rest late)
+number-late : (rest : List Reason) {n : ℕ} → Reasons AboveTwo rest → lowest rest ≡ refused n → 3 ≤ n
+number-late rest late e = subst Late e (refusing-lowest AboveTwo rest late)
 
 module _ (told : Bool) (rest : List Reason) (v : Verdict Layout) (result work : List ℤ) where
   -- a call: 1 and 2, its other reasons, what its step gives
@@ -54,7 +55,7 @@ module _ (told : Bool) (rest : List Reason) (v : Verdict Layout) (result work : 
 
   module _ (k : SizesKept told (length result) (length work)) where
     -- another reason: the working buffer is cleared
-    pub ends-late : allLate rest ≡ true → {why : Refusal} {r : Written} {work′ : List ℤ} → lowest rest ≡ refused (numberOf why) →
+    pub ends-late : Reasons AboveTwo rest → {why : Refusal} {r : Written} {work′ : List ℤ} → lowest rest ≡ refused (numberOf why) →
         (r ≡ Refused why) × (work′ ≡ over (zeros workSize) work) → Ends (inForm encode call) result work r result work′
     ends-late late {why} e f =
         let is : call ≡ refused (numberOf why) = rw (others rest k, e) in

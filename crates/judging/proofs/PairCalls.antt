@@ -3,6 +3,7 @@ use mathlib.Core.Path.{_≡_, sym, ap, _∙_}
 use mathlib.Core.Bool.{Bool, true, false, not, _&&_, _||_}
 use mathlib.Core.List.{List, _∷_}
 use Prim.Native.Nat.{ℕ}
+use native.Mathlib.Omega.{arith}
 use lib.IntN.{ℤ}
 use lib.ListN.{length}
 use Rattle.rules.specs.declared.Head.{Head}
@@ -20,10 +21,11 @@ use Rattle.rules.specs.Layout.{Layout, encode}
 use Rattle.rules.specs.Record.{layoutIn, sound}
 use Rattle.rules.specs.Arguments.{overRecord}
 use Rattle.rules.specs.Endings.{Ends}
+use Rattle.rules.proofs.Refusing.{Reasons}
 use Rattle.records.specs.Sound.{SoundRecord, soundHead, PlainHead}
 use Rattle.tables.specs.Tables.{Only}
 use Rattle.parts.specs.Answers.{Says, Finished}
-use Rattle.parts.proofs.Ending.{Late, allLate}
+use Rattle.parts.proofs.Ending.{AboveTwo, Late}
 use Rattle.judging.specs.declared.Sizes.{Sizes}
 use Rattle.judging.specs.declared.Sizes.the-variants.{Kept, Refused}
 use Rattle.judging.specs.LentSizes.{sizeReasons, SizesKept, SizesAre}
@@ -51,16 +53,16 @@ module _ (rule : Layout → Layout → Verdict Layout) (more : List Reason) (s t
 
   module _ (k : SizesKept (overRecord s || overRecord t) (length result) (length work)) where
     -- a later reason
-    pub pair-late : allLate more ≡ true → {why : Refusal} {r : Written} {work′ : List ℤ} → lowest reasons ≡ refused (numberOf why) →
+    pub pair-late : Reasons AboveTwo more → {why : Refusal} {r : Written} {work′ : List ℤ} → lowest reasons ≡ refused (numberOf why) →
         (r ≡ NotWritten why) × (work′ ≡ over (zeros workSize) work) → Ends (inForm encode call) result work r result work′
-    pair-late late e f = ends-late (overRecord s || overRecord t) reasons (rule (layoutIn s) (layoutIn t)) result work k late e f
+    pair-late late e f = ends-late (overRecord s || overRecord t) reasons (rule (layoutIn s) (layoutIn t)) result work k (omega arith, late) e f
 
     -- 3: the first record is not sound, or the second
-    pub pair-late-first : allLate more ≡ true → {q : Walk} {r : Written} {work′ : List ℤ} → q ≡ soundHead s → q ≡ Broken →
+    pub pair-late-first : Reasons AboveTwo more → {q : Walk} {r : Written} {work′ : List ℤ} → q ≡ soundHead s → q ≡ Broken →
         (r ≡ NotWritten Unsound) × (work′ ≡ over (zeros workSize) work) → Ends (inForm encode call) result work r result work′
     pair-late-first late e f g = pair-late late {why = Unsound} (pair-unsound s t more (unsound-first s t e f)) g
 
-    pub pair-late-second : allLate more ≡ true → {p q : Walk} {x : Head} {r : Written} {work′ : List ℤ} → p ≡ soundHead s → PlainHead p s → p ≡ To x → q ≡ soundHead t → q ≡ Broken →
+    pub pair-late-second : Reasons AboveTwo more → {p q : Walk} {x : Head} {r : Written} {work′ : List ℤ} → p ≡ soundHead s → PlainHead p s → p ≡ To x → q ≡ soundHead t → q ≡ Broken →
         (r ≡ NotWritten Unsound) × (work′ ≡ over (zeros workSize) work) → Ends (inForm encode call) result work r result work′
     pair-late-second late d p h e f g = pair-late late {why = Unsound} (pair-unsound s t more (unsound-second s t d p h e f)) g
 

@@ -1,24 +1,20 @@
 -- How a call ends that hands its step to `finish` or `refuse`. Assumes nothing.
 use mathlib.Core.Path.{_≡_, refl, sym, ap, _∙_}
-use mathlib.Core.Bool.{Bool, true, false, not, _&&_}
-use mathlib.Core.List.{List, [], _∷_}
+use mathlib.Core.List.{List}
 use Prim.Native.Nat.{ℕ, _≤_}
 use native.Mathlib.Omega.{arith}
-use borrow.Author.Tests.{leb-true, ne-eqb}
-use lib.Dec.{leb}
+use borrow.Author.Tests.{ne-eqb}
 use lib.IntN.{ℤ}
 use Rattle.rules.specs.declared.Refusal.{Refusal}
-use Rattle.rules.specs.declared.Refusal.the-variants.{OverCount, ShortBuffer}
 use Rattle.rules.specs.declared.Step.{Step}
 use Rattle.rules.specs.declared.Step.the-variants.{Done, Refused as NoStep}
 use Rattle.rules.specs.declared.Written.{Written}
 use Rattle.rules.specs.declared.Written.the-variants.{Numbers, Refused}
-use Rattle.rules.specs.Lists.{if}
 use Rattle.rules.specs.Buffers.{over, zeros}
-use Rattle.rules.specs.Refusals.{Verdict, given, refused, inForm, numberOf, Reason, _when_, _then_, lowest}
-use Rattle.rules.specs.Layout.{Layout, encode, made, wellFormed, withinSizes}
+use Rattle.rules.specs.Refusals.{Verdict, given, refused, inForm, numberOf}
+use Rattle.rules.specs.Layout.{Layout, encode}
 use Rattle.rules.specs.Endings.{stepSays, resultAfter, workAfter, Ends}
-use Rattle.rules.proofs.Same.{both-true}
+use Rattle.rules.proofs.Refusing.{Refusing}
 use Rattle.rules.proofs.Buffers.{length-zeros}
 use Rattle.tables.specs.Tables.{Only}
 use Rattle.rules.specs.Limits.{workSize}
@@ -41,39 +37,11 @@ module _ {step : Step} {at : ℕ} {work result work′ : List ℤ} (w : work′ 
 
 -- ---- refusals of steps: neither 1 nor 2, after which the working buffer would have to be as it was
 
+abbrev pub AboveTwo : ℕ → Type 0
+AboveTwo n = 3 ≤ n
+
 abbrev pub Late : {A : Type 0} → Verdict A → Type 0
-Late (given a) = Unit
-Late (refused n) = 3 ≤ n
-
--- the numbers of a step's reasons are all above 2
-abbrev pub allLate : List Reason → Bool
-allLate [] = true
-allLate ((n when holds) ∷ reasons) = leb 3 n && allLate reasons
-
--- one of two
-pub late-if : {A : Type 0} (b : Bool) (v w : Verdict A) → Late v → Late w → Late (if b v w)
-late-if true v w p q = p
-late-if false v w p q = q
-
--- one after the other
-pub late-then : {A B : Type 0} (v : Verdict A) (next : A → Verdict B) → Late v → ((a : A) → Late (next a)) → Late (v then next)
-late-then (given a) next p q = q a
-late-then (refused n) next p q = p
-
--- by the reasons of a step
-pub late-lowest : (reasons : List Reason) → allLate reasons ≡ true → Late (lowest reasons)
-unfolding lowest
-late-lowest [] e = tt
-late-lowest ((n when holds) ∷ reasons) e =
-    let h = both-true (leb 3 n) (allLate reasons) e in
-    late-if holds (refused n) (lowest reasons) (leb-true 3 n (h .0)) (late-lowest reasons (h .1))
-
--- a layout that is judged
-pub late-made : (l : Layout) → Late (made l)
-unfolding made
-late-made l =
-    let reasons : List Reason = 12 when not (wellFormed l) ∷ 13 when not (withinSizes l) ∷ [] in
-    late-then (lowest reasons) (λ _. given l) (late-lowest reasons refl) (λ _. tt)
+Late v = Refusing AboveTwo v
 
 -- ---- the end of a call
 
@@ -97,17 +65,6 @@ call-finished {v} {step} {at} {work} {now} e late o f = record {
   result-is = rw (e .is) at (f .result-is);
   work-is = f .work-is ∙ cleared workSize o ∙ sym (late-work v late work);
 }
-
--- a call that is refused before anything is written: a count over its limit, or a buffer that is too short
-pub call-over : {v : Verdict Layout} (result work : List ℤ) → v ≡ refused 1 →
-    Ends (inForm encode v) result work (Refused OverCount) result work
-unfolding numberOf resultAfter workAfter
-call-over result work e = rw e (record { answer = refl; result-is = refl; work-is = refl })
-
-pub call-short : {v : Verdict Layout} (result work : List ℤ) → v ≡ refused 2 →
-    Ends (inForm encode v) result work (Refused ShortBuffer) result work
-unfolding numberOf resultAfter workAfter
-call-short result work e = rw e (record { answer = refl; result-is = refl; work-is = refl })
 
 -- a call that ends with `refuse`
 pub call-refused : {v : Verdict Layout} {x : Refusal} {work now work′ result : List ℤ} {r : Written} →

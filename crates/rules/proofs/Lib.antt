@@ -47,4 +47,5 @@ pub mod Low
 pub mod Determined
 pub mod WorkedByHand
 pub mod Refusing
+pub mod RefusedWith
 pub mod Never14

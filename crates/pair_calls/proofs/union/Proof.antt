@@ -108,7 +108,7 @@ returns-2 c =
     let told = refused .before .before in
     let walked = told .before .before in
     let a = startOf (walked .before) .args in
-    pair-late-first union [] (now (a .left)) (now (a .right)) (now (a .result)) (now (a .work)) (kept (walked .before)) refl (walked .sound-head .ensures .0) (told .enum-told2 .given .1) (refused .refuse .ensures)
+    pair-late-first union [] (now (a .left)) (now (a .right)) (now (a .result)) (now (a .work)) (kept (walked .before)) tt (walked .sound-head .ensures .0) (told .enum-told2 .given .1) (refused .refuse .ensures)
 
 sound-head-requires-2 : tie.Need-sound-head-requires-2
 sound-head-requires-2 c κs = search needs
@@ -134,7 +134,7 @@ returns-3 c =
     let first = walked2 .before .before in
     let walked = first .before .before in
     let a = startOf (walked .before) .args in
-    pair-late-second union [] (now (a .left)) (now (a .right)) (now (a .result)) (now (a .work)) (kept (walked .before)) refl (walked .sound-head .ensures .0) (walked .sound-head .ensures .1) (first .first .given .1) (walked2 .sound-head2 .ensures .0) (told .enum-told3 .given .1) (refused .refuse2 .ensures)
+    pair-late-second union [] (now (a .left)) (now (a .right)) (now (a .result)) (now (a .work)) (kept (walked .before)) tt (walked .sound-head .ensures .0) (walked .sound-head .ensures .1) (first .first .given .1) (walked2 .sound-head2 .ensures .0) (told .enum-told3 .given .1) (refused .refuse2 .ensures)
 
 sub-load-pair : tie.Need-sub-load-pair
 sub-load-pair c = search needs
