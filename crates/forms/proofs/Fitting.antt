@@ -32,7 +32,7 @@ use Rattle.rules.proofs.Tests.{all-each, each-all}
 use Rattle.cells.specs.View.{view, Low}
 use Rattle.tables.specs.Rows.{rowsAt, HasRows}
 use Rattle.tables.proofs.Different.{twice-length}
-use Rattle.records.proofs.Low.{has-rows, entries-rows}
+use Rattle.records.proofs.Naturals.{has-rows, entries-rows}
 use Rattle.shapes.specs.Judged.{Judged}
 use Rattle.shapes.proofs.Reading.{length-naturals}
 use Rattle.lookups.proofs.SoundRecords.{shape-within}

@@ -15,7 +15,7 @@ use Rattle.rules.specs.Record.{naturals, rowsOf, shapeIn}
 use Rattle.rules.proofs.Sets.{Each, each-nil, each-cons}
 use Rattle.rules.proofs.RowsRead.{naturals-take, naturals-drop, rows-length, rows-row}
 use Rattle.tables.proofs.Rows.{row-ends, lent-row}
-use Rattle.records.proofs.Passing.{Passed, none-passed, one-more, one-fails, all-passed}
+use Rattle.tables.proofs.Passing.{Passed, none-passed, one-more, one-fails, all-passed}
 
 -- ---- rows of a list
 

@@ -15,7 +15,7 @@ use Rattle.rules.specs.Arguments.{overRecord, goodIndex}
 use Rattle.rules.specs.Layout.{Layout}
 use Rattle.rules.specs.Refusals.{Verdict, given, refused, numberOf, lowest}
 use Rattle.rules.specs.CountsAndForms.{minRankOf, ofRecords}
-use Rattle.records.specs.Sound.{SoundRecord, soundHead, PlainHead}
+use Rattle.records.specs.Sound.{SoundRecord, soundHead, ReadableHead}
 use Rattle.records.proofs.SoundRecords.{no-head, sound-record}
 use Rattle.lookups.proofs.SoundRecords.{lent-shape}
 use Rattle.layout.specs.declared.judging.Two.{Two}
@@ -25,7 +25,7 @@ use Rattle.layout.specs.Judging.{recordReasons, BothSound, TwoAre}
 -- ---- one record
 
 -- one that has a head is sound
-pub head-sound : (s : List ℤ) {r : Walk} {h : Head} → r ≡ soundHead s → PlainHead r s → r ≡ To h → sound s ≡ true
+pub head-sound : (s : List ℤ) {r : Walk} {h : Head} → r ≡ soundHead s → ReadableHead r s → r ≡ To h → sound s ≡ true
 head-sound s e p f = sound-record s e p f .judged
 
 pub ruleset heads = (no-head, sound-record, head-sound)
@@ -34,7 +34,7 @@ pub ruleset heads = (no-head, sound-record, head-sound)
 pub index-counted : (s index : List ℤ) {h : Head} {b : Bool} → SoundRecord h s → b ≡ goodIndex index (h .rank) →
     b ≡ goodIndex index (natural (getD s 2 (pos 0)))
 unfolding natural
-index-counted s index r g = g ∙ rw (r .plain .head .rank)
+index-counted s index r g = g ∙ rw (r .readable .head .rank)
 
 -- what was read of the shape is so of the layout's
 pub min-rank-read : {s : List ℤ} {h : Head} {n : ℕ} → SoundRecord h s → n ≡ minRankOf (shapeIn (take (length s - 2) (drop 2 s))) →
@@ -64,7 +64,7 @@ module _ (s t : List ℤ) where
   unsound-first e f = rw (no-head s e f)
 
   -- the second is not
-  pub unsound-second : {q r : Walk} {x : Head} → q ≡ soundHead s → PlainHead q s → q ≡ To x → r ≡ soundHead t → r ≡ Broken →
+  pub unsound-second : {q r : Walk} {x : Head} → q ≡ soundHead s → ReadableHead q s → q ≡ To x → r ≡ soundHead t → r ≡ Broken →
       (sound s && sound t) ≡ false
   unsound-second d p g e f = rw (head-sound s d p g, no-head t e f)
 

@@ -32,7 +32,7 @@ use Rattle.cells.proofs.View.{view-length, view-pos}
 use Rattle.tables.specs.Rows.{rowAt, rowsAt, HasRow, HasRows}
 use Rattle.records.specs.Sound.{SoundRecord}
 use Rattle.records.proofs.Layouts.{axes, has-rows-there}
-use Rattle.records.proofs.Low.{low-front}
+use Rattle.records.proofs.Naturals.{low-front}
 use Rattle.records.proofs.SoundRecords.{lies, layout-shown}
 use Rattle.shapes.proofs.Judging.{rank-counted}
 use Rattle.shapes.proofs.Reading.{length-naturals, natural-getD}
@@ -162,7 +162,7 @@ module _ {h : Head} {s index read : List ℤ} (r : SoundRecord h s) (i : IndexRe
       wide : width (layoutIn s) ≡ h .width
       wide =
           let b = lies r in
-          let sum = axes (r .plain) in
+          let sum = axes (r .readable) in
           let rank : length (part 3 (h .rank) (view s)) ≡ h .rank = length-part 3 (h .rank) (view s) (rw view-length (omega arith)) in
           rw (layout-shown r) (omega arith)
 
@@ -190,7 +190,7 @@ module _ {h : Head} {s index read : List ℤ} (r : SoundRecord h s) (i : IndexRe
 -- the rows that it is looked for among
 module _ {h : Head} {s : List ℤ} (r : SoundRecord h s) where
   pub rows-there : HasRows (h .rows .first) (h .width) (h .rows .count) s
-  rows-there = has-rows-there (r .plain)
+  rows-there = has-rows-there (r .readable)
 
   pub rows-rise : ordered s ≡ true → Increasing (rowsAt (h .rows .first) (h .width) (h .rows .count) s)
   unfolding ordered

@@ -16,7 +16,7 @@ use Rattle.rules.specs.Record.{natural, naturals, shapeIn}
 use Rattle.rules.specs.Lookup.{readIndex}
 use Rattle.rules.proofs.Buffers.{over-nil, over-more}
 use Rattle.rules.proofs.Finding.{read-length}
-use Rattle.records.proofs.Passing.{Passed, none-passed, one-more, one-fails, all-passed}
+use Rattle.tables.proofs.Passing.{Passed, none-passed, one-more, one-fails, all-passed}
 use Rattle.shapes.specs.Judged.{Judged}
 use Rattle.shapes.proofs.Judging.{rank-counted, rank-small}
 use Rattle.shapes.proofs.Reading.{length-naturals, natural-there}

@@ -31,7 +31,7 @@ module _ {h : Head} {s : List ℤ} (r : SoundRecord h s) where
   count-first d =
       let b = lies r in
       let long : 2 < length s = omega arith in
-      getD-drop 2 s 0 d ∙ other-default s 2 d (pos 0) long ∙ r .plain .head .rank
+      getD-drop 2 s 0 d ∙ other-default s 2 d (pos 0) long ∙ r .readable .head .rank
 
   -- behind it stand the extents
   extents-behind : part 1 (h .rank) (drop 2 s) ≡ part 3 (h .rank) s
