@@ -27,7 +27,7 @@ use Rattle.tables.specs.Rows.{rowsAt}
 use Rattle.records.proofs.Naturals.{low-part}
 use Rattle.records.specs.Sound.{SoundRecord}
 use Rattle.records.proofs.SoundRecords.{lies, layout-shown, layout-sound}
-use Rattle.forms.specs.Pieces.{pieces, HasRoom}
+use Rattle.forms.specs.Pieces.{pieces, PiecesFit}
 use Rattle.forms.proofs.Packed.{flat, rows-part, section-packed}
 use Rattle.forms.proofs.Pieces.{ends-given, ends-same, encode-pieces}
 
@@ -73,7 +73,7 @@ module _ {h : Head} {s : List ℤ} (r : SoundRecord h s) where
 
   -- there is room for them
   pub dense-room : {result : List ℤ} → 1802 ≤ length result →
-      HasRoom 0 (h .rank) 0 (take (3 + h .rank - 3) (drop 3 s)) [] (take (h .inputs .next - h .rows .next) (drop (h .rows .next) s)) result
+      PiecesFit 0 (h .rank) 0 (take (3 + h .rank - 3) (drop 3 s)) [] (take (h .inputs .next - h .rows .next) (drop (h .rows .next) s)) result
   unfolding part
   dense-room l =
       let b = lies r in
