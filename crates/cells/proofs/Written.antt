@@ -22,7 +22,7 @@ pub record Written (a : ℕ) (new old now : List ℤ) : Type 0 where
   pub is : now ≡ put a new old
 
 -- nothing is written yet
-nothing : (a : ℕ) (old : List ℤ) → a ≤ length old → Written a [] old old
+pub nothing : (a : ℕ) (old : List ℤ) → a ≤ length old → Written a [] old old
 nothing a old h = record { fits = omega arith; size = refl; is = sym (put-nil a old) }
 
 -- one number more, behind those that are written
@@ -35,7 +35,7 @@ behind {a} {new} {old} w n z e h = record {
 }
 
 -- one number more, before them
-before : {a : ℕ} {new old now : List ℤ} → Written (suc a) new old now → (z : ℤ) → Written a (z ∷ new) old (set now a z)
+pub before : {a : ℕ} {new old now : List ℤ} → Written (suc a) new old now → (z : ℤ) → Written a (z ∷ new) old (set now a z)
 before {a} {new} {old} w z = record {
   fits = omega arith;
   size = simp length-set (w .size);

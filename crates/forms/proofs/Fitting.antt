@@ -30,19 +30,19 @@ use Rattle.rules.proofs.Sets.{each-nil}
 use Rattle.rules.proofs.Soundness.{well-formed-true, true-well-formed}
 use Rattle.rules.proofs.Tests.{all-each, each-all}
 use Rattle.cells.specs.View.{view, Low}
-use Rattle.tables.specs.Rows.{rowsAt, HasRows}
+use Rattle.tables.specs.Rows.{rowAt, rowsAt, HasRows}
 use Rattle.tables.proofs.Different.{twice-length}
-use Rattle.records.proofs.Low.{has-rows, entries-rows}
+use Rattle.records.proofs.Naturals.{has-rows, entries-rows}
 use Rattle.shapes.specs.Judged.{Judged}
+use Rattle.shapes.proofs.Judging.{shape-row}
 use Rattle.shapes.proofs.Reading.{length-naturals}
 use Rattle.lookups.proofs.SoundRecords.{shape-within}
-use Rattle.forms.specs.Pieces.{pieces, HasRoom, noDeps, sparseOf}
+use Rattle.forms.specs.Pieces.{pieces, PiecesFit, noDeps, sparseOf}
 use Rattle.forms.specs.Windows.{RowsInside}
 use Rattle.forms.proofs.Packed.{flat}
 use Rattle.forms.proofs.Pieces.{encode-pieces, ends-same}
 use Rattle.forms.proofs.Making.{extents, lent-extents, made-refused, ends-refused, no-deps-fit}
-use Rattle.forms.proofs.Listing.{below, rows-wide}
-use Rattle.forms.proofs.Numbering.{rows-seen}
+use Rattle.forms.proofs.Listing.{below, rows-wide, rows-natural}
 
 -- a list that has no length is empty
 no-length : {A : Type 0} (l : List A) → length l ≡ 0 → l ≡ []
@@ -106,7 +106,14 @@ module _ (s : List ℤ) {w : ℕ} (n : ℕ) (numbers : List ℤ) (size : length 
     pub rows-negative : not t ≡ true → false ≡ all nonNeg numbers && wellFormed (sparseOf (shapeIn s) n numbers)
     rows-negative g = rw (← natural-told, not-true t g)
 
-    module _ (z : w ≡ 0 → ⊥) (g : not t ≡ false) {u : Bool} (d : u ≡ all (λ row. allBelow row (shapeIn s)) (rowsOf w n (naturals numbers))) where
+    module _ (z : w ≡ 0 → ⊥) (g : not t ≡ false) (j : Judged s) {u : Bool} (d : u ≡ all (λ row. allBelow row (rowAt 1 w s)) (rowsAt 0 w n numbers)) where
+      -- the rows and the shape as they are read
+      told-below : u ≡ all (below s) (rowsOf w n (naturals numbers))
+      told-below =
+          d
+          ∙ ap (λ (l : List ℕ). all (λ row. allBelow row l) (rowsAt 0 w n numbers)) (shape-row s j e)
+          ∙ ap (all (below s)) (rows-natural w n numbers (sym natural-told ∙ not-false t g))
+
       -- a row is outside the shape
       pub rows-outside : not u ≡ true → false ≡ all nonNeg numbers && wellFormed (sparseOf (shapeIn s) n numbers)
       rows-outside k = rw (← natural-told, not-false t g) (sym (by (wellFormed (sparseOf (shapeIn s) n numbers)) refl))
@@ -114,13 +121,13 @@ module _ (s : List ℤ) {w : ℕ} (n : ℕ) (numbers : List ℤ) (size : length 
           by : (v : Bool) → wellFormed (sparseOf (shapeIn s) n numbers) ≡ v → v ≡ false
           by true q =
               let inside = rw (entries-are z (naturals numbers)) at (well-formed-true q .rows-below) in
-              absurd (true-not-false (each-all (below s) (rowsOf w n (naturals numbers)) inside) (sym d ∙ not-true u k))
+              absurd (true-not-false (each-all (below s) (rowsOf w n (naturals numbers)) inside) (sym told-below ∙ not-true u k))
           by false q = refl
 
-      module _ (j : Judged s) (k : not u ≡ false) where
+      module _ (k : not u ≡ false) where
         -- all are inside
         pub rows-within : RowsInside s w n numbers
-        rows-within = record { judged = j; wide = e; room = rows-long; natural = sym natural-told ∙ not-false t g; inside = sym d ∙ not-false u k }
+        rows-within = record { judged = j; wide = e; room = rows-long; natural = sym natural-told ∙ not-false t g; inside = sym told-below ∙ not-false u k }
 
         -- what the layout asks of them besides
         formed : distinct (rowsOf w n (naturals numbers)) ≡ true → WellFormed (sparseOf (shapeIn s) n numbers)
@@ -136,7 +143,7 @@ module _ (s : List ℤ) {w : ℕ} (n : ℕ) (numbers : List ℤ) (size : length 
               sparse-rows = λ x. absurd (x refl);
               rows-distinct = rw rows (eqb-true _ _ q);
               row-lengths = rw (rows, width) (rows-wide w n (naturals numbers) long);
-              rows-below = rw rows (all-each (below s) (sym d ∙ not-false u k));
+              rows-below = rw rows (all-each (below s) (sym told-below ∙ not-false u k));
               dense-all = λ x. absurd (omega arith);
               diagonal-wide = λ x. absurd (omega arith);
               diagonal-alike = λ x. absurd (omega arith);
@@ -148,7 +155,7 @@ module _ (s : List ℤ) {w : ℕ} (n : ℕ) (numbers : List ℤ) (size : length 
         pub rows-decide : {v : Bool} → v ≡ distinct (rowsAt 0 w n numbers) → v ≡ all nonNeg numbers && wellFormed (sparseOf (shapeIn s) n numbers)
         rows-decide {v} q =
             let rows = entries-are z (naturals numbers) in
-            let told : v ≡ distinct (rowsOf w n (naturals numbers)) = q ∙ ap distinct (rows-seen rows-within) in
+            let told : v ≡ distinct (rowsOf w n (naturals numbers)) = q ∙ ap distinct (rows-natural w n numbers (rows-within .natural)) in
             rw (← natural-told, not-false t g)
             (decided v (wellFormed (sparseOf (shapeIn s) n numbers))
             (λ y. true-well-formed (formed (sym told ∙ y)))
@@ -210,7 +217,7 @@ module _ (s : List ℤ) (n : ℕ) (numbers : List ℤ) {t : Bool} (e : t ≡ all
 
     module _ (size : length numbers ≡ n * length (shapeIn s)) (h : n ≤ 128) {rank : ℕ} (c : rank ≡ length (shapeIn s)) where
       -- there is room for them
-      pub sparse-room : {result : List ℤ} → 1802 ≤ length result → HasRoom 2 0 n (take (1 + rank - 1) (drop 1 s)) numbers noDeps result
+      pub sparse-room : {result : List ℤ} → 1802 ≤ length result → PiecesFit 2 0 n (take (1 + rank - 1) (drop 1 s)) numbers noDeps result
       sparse-room l =
           let few = extents s j c .few in
           let axes : length (shapeIn s) ≤ 4 = omega arith in

@@ -38,7 +38,7 @@ use Rattle.records.proofs.Sections.{section-laid}
 use Rattle.shapes.specs.Judged.{Judged}
 use Rattle.shapes.proofs.Judging.{rank-counted, rank-small}
 use Rattle.lookups.proofs.SoundRecords.{shape-within}
-use Rattle.forms.specs.Pieces.{pieces, HasRoom, noDeps, diagonalOf}
+use Rattle.forms.specs.Pieces.{pieces, PiecesFit, noDeps, diagonalOf}
 use Rattle.forms.proofs.Pieces.{encode-pieces, ends-same}
 
 -- ---- the extents of a shape
@@ -80,7 +80,7 @@ module _ (s : List ℤ) {rank : ℕ} (j : Judged s) (e : rank ≡ length (shapeI
   lent-length = rw (lent-extents, length-map) (sym e)
 
   -- there is room for them
-  pub shape-room : {kind dense : ℕ} {result : List ℤ} → kind ≤ 4 → dense ≤ 4 → 1802 ≤ length result → HasRoom kind dense 0 (take (1 + rank - 1) (drop 1 s)) [] noDeps result
+  pub shape-room : {kind dense : ℕ} {result : List ℤ} → kind ≤ 4 → dense ≤ 4 → 1802 ≤ length result → PiecesFit kind dense 0 (take (1 + rank - 1) (drop 1 s)) [] noDeps result
   shape-room k d h =
       let x = extents s j e in
       let n = lent-length in
@@ -123,7 +123,7 @@ module _ (rank : ℕ) (h : rank ≤ 4) where
   pub zeros-lent : rank ≡ length (take rank (pos 0 ∷ pos 0 ∷ pos 0 ∷ pos 0 ∷ []))
   zeros-lent = sym zeros-length
 
-  pub zeros-room : {result : List ℤ} → 1802 ≤ length result → HasRoom 0 rank 0 (take rank (pos 0 ∷ pos 0 ∷ pos 0 ∷ pos 0 ∷ [])) [] noDeps result
+  pub zeros-room : {result : List ℤ} → 1802 ≤ length result → PiecesFit 0 rank 0 (take rank (pos 0 ∷ pos 0 ∷ pos 0 ∷ pos 0 ∷ [])) [] noDeps result
   zeros-room l =
       let n = zeros-length in
       record { kind-small = omega arith; dense-small = omega arith; count-small = omega arith; extents-few = omega arith; room = omega arith }

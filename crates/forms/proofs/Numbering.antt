@@ -24,7 +24,7 @@ use Rattle.rules.proofs.Extents.{product-nonzero, extent-nonzero}
 use Rattle.rules.proofs.Indices.{ravel-below, ravel-same}
 use Rattle.rules.proofs.Places.{in-at}
 use Rattle.rules.proofs.Ranges.{map-at}
-use Rattle.rules.proofs.RowsRead.{all-part, pos-naturals, rows-length, rows-row}
+use Rattle.rules.proofs.RowsRead.{all-part, rows-length, rows-row}
 use Rattle.rules.proofs.Same.{both-true, true-not-false}
 use Rattle.rules.proofs.Tests.{all-at, true-both}
 use Rattle.cells.specs.View.{view}
@@ -36,7 +36,7 @@ use Rattle.shapes.specs.Judged.{Judged}
 use Rattle.shapes.proofs.Reading.{length-naturals}
 use Rattle.lookups.proofs.SoundRecords.{shape-within}
 use Rattle.forms.specs.Windows.{RowInside, RowsInside, rowNumbers, Twice, DifferIn}
-use Rattle.forms.proofs.Listing.{below, rows-wide, lent-naturals}
+use Rattle.forms.proofs.Listing.{below, rows-wide, rows-natural, lent-naturals}
 use Rattle.forms.proofs.Marking.{Apart, apart-start, apart-turn}
 
 -- ---- the extents of a judged shape
@@ -136,9 +136,8 @@ module _ {shape numbers : List ℤ} {w n : ℕ} (r : RowsInside shape w n number
       ravel-same (shapeIn shape) (p .0) (q .0) (p .1) (q .1) (sym (number-of i h) ∙ e ∙ number-of k l)
 
   -- none of their numbers is negative
-  pub rows-seen : rowsAt 0 w n numbers ≡ rowsOf w n (naturals numbers)
-  unfolding rowsAt
-  rows-seen = ap (rowsOf w n) (sym (ap view (pos-naturals numbers (r .natural))) ∙ view-pos (naturals numbers))
+  rows-seen : rowsAt 0 w n numbers ≡ rowsOf w n (naturals numbers)
+  rows-seen = rows-natural w n numbers (r .natural)
 
   -- ---- all different: `differ_in_windows`
 

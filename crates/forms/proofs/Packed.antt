@@ -64,7 +64,7 @@ module _ {h : Head} {s : List ℤ} (r : SoundRecord h s) where
   shape-packed =
       let b = lies r in
       let long : 3 ≤ length (view s) = rw view-length (omega arith) in
-      let count : getD (view s) 2 0 ≡ h .rank = view-getD s 2 ∙ ap code (r .plain .head .rank) in
+      let count : getD (view s) 2 0 ≡ h .rank = view-getD s 2 ∙ ap code (r .readable .head .rank) in
       let end : h .rank + 3 ≡ 3 + h .rank = omega arith in
       rw (end, take-add 3 (h .rank) (view s), front-three (view s) long, count) (unfold part in refl)
 
@@ -76,16 +76,16 @@ module _ {h : Head} {s : List ℤ} (r : SoundRecord h s) where
   pub rows-packed : take (h .rows .next) (view s) ≡ numbers (layoutIn s) []
   rows-packed =
       let last = append-nil (section (rowsAt (h .rows .first) (h .width) (h .rows .count) s)) in
-      rw (layout-shown r, section-packed (h .rank + 3) (h .width) s (h .rows) (r .plain .head .rows), shape-packed, rank-shown)
+      rw (layout-shown r, section-packed (h .rank + 3) (h .width) s (h .rows) (r .readable .head .rows), shape-packed, rank-shown)
       (ap (λ (l : List ℕ). getD (view s) 0 0 ∷ getD (view s) 1 0 ∷ h .rank ∷ (part 3 (h .rank) (view s) ++ l)) (sym last))
 
   -- all of it
   pub all-packed : take (h .inputs .next) (view s) ≡ numbers (layoutIn s) (section (layoutIn s .states) ++ section (layoutIn s .inputs))
   all-packed =
       rw (
-        section-packed (h .states .next) (h .rank + 1) s (h .inputs) (r .plain .head .inputs),
-        section-packed (h .rows .next) (h .rank + 1) s (h .states) (r .plain .head .states),
-        section-packed (h .rank + 3) (h .width) s (h .rows) (r .plain .head .rows),
+        section-packed (h .states .next) (h .rank + 1) s (h .inputs) (r .readable .head .inputs),
+        section-packed (h .rows .next) (h .rank + 1) s (h .states) (r .readable .head .states),
+        section-packed (h .rank + 3) (h .width) s (h .rows) (r .readable .head .rows),
         shape-packed,
         layout-shown r,
         rank-shown,

@@ -14,7 +14,7 @@ use Rattle.rules.specs.Endings.{EndsIn, resultAfter}
 use Rattle.rules.proofs.Buffers.{over-more}
 use Rattle.rules.proofs.Writes.{put-over}
 use Rattle.cells.proofs.Signed.{held, back}
-use Rattle.forms.specs.Pieces.{pieces, HasRoom}
+use Rattle.forms.specs.Pieces.{pieces, PiecesFit}
 use Rattle.forms.proofs.Packed.{flat, numbers}
 
 -- ---- numbers that were written
@@ -31,7 +31,7 @@ ends-same t e = rw e at t
 -- ---- the pieces
 
 module _ {kind dense count : ℕ} {extents rows deps result r₁ r₂ r₃ r₄ r₅ : List ℤ} {x y z : ℤ} where
-  pub pieces-written : HasRoom kind dense count extents rows deps result → x ≡ pos kind → y ≡ pos dense → z ≡ pos (length extents) →
+  pub pieces-written : PiecesFit kind dense count extents rows deps result → x ≡ pos kind → y ≡ pos dense → z ≡ pos (length extents) →
       r₁ ≡ over (held x ∷ held y ∷ held z ∷ []) result → r₂ ≡ put 3 extents r₁ → r₃ ≡ set r₂ (3 + length extents) (pos count) →
       r₄ ≡ put (3 + length extents + 1) rows r₃ → r₅ ≡ put (3 + length extents + 1 + length rows) deps r₄ →
       EndsIn (given (pieces kind dense extents count rows deps)) result (Numbers (3 + length extents + 1 + length rows + length deps)) r₅

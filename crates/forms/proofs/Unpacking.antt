@@ -24,10 +24,10 @@ use Rattle.rules.proofs.Buffers.{part-take, length-part}
 use Rattle.cells.specs.View.{view}
 use Rattle.cells.proofs.View.{view-length, view-part, low-view}
 use Rattle.tables.specs.Rows.{rowsAt}
-use Rattle.records.proofs.Low.{low-part}
+use Rattle.records.proofs.Naturals.{low-part}
 use Rattle.records.specs.Sound.{SoundRecord}
 use Rattle.records.proofs.SoundRecords.{lies, layout-shown, layout-sound}
-use Rattle.forms.specs.Pieces.{pieces, HasRoom}
+use Rattle.forms.specs.Pieces.{pieces, PiecesFit}
 use Rattle.forms.proofs.Packed.{flat, rows-part, section-packed}
 use Rattle.forms.proofs.Pieces.{ends-given, ends-same, encode-pieces}
 
@@ -35,7 +35,7 @@ module _ {h : Head} {s : List ℤ} (r : SoundRecord h s) where
   -- a part of the record is the natural numbers of its view
   part-pos : (a n : ℕ) → a + n ≤ h .inputs .next → part a n s ≡ map pos (part a n (view s))
   part-pos a n l =
-      low-view (part a n s) (rw (view-part a n s) (low-part a n (h .inputs .next) (view s) l (r .plain .low))) ∙ ap (map pos) (view-part a n s)
+      low-view (part a n s) (rw (view-part a n s) (low-part a n (h .inputs .next) (view s) l (r .readable .low))) ∙ ap (map pos) (view-part a n s)
 
   -- as it is lent
   lent-pos : (a e : ℕ) → a ≤ e → e ≤ h .inputs .next → take (e - a) (drop a s) ≡ map pos (part a (e - a) (view s))
@@ -46,7 +46,7 @@ module _ {h : Head} {s : List ℤ} (r : SoundRecord h s) where
   deps-behind : part (h .rows .next) (h .inputs .next - h .rows .next) (view s) ≡ section (layoutIn s .states) ++ section (layoutIn s .inputs)
   deps-behind =
       let b = lies r in
-      let g = r .plain .head in
+      let g = r .readable .head in
       let whole : h .rows .next + (h .inputs .next - h .rows .next) ≡ h .inputs .next = omega arith in
       let long : length (take (h .rows .next) (view s)) ≡ h .rows .next = length-take-le (h .rows .next) (view s) (rw view-length (omega arith)) in
       rw (
@@ -66,18 +66,18 @@ module _ {h : Head} {s : List ℤ} (r : SoundRecord h s) where
   shape-ends = let b = lies r in omega arith
 
   pub deps-start : h .rows .next ≤ h .inputs .next
-  deps-start = let g = r .plain .head in omega arith
+  deps-start = let g = r .readable .head in omega arith
 
   pub deps-end : h .inputs .next ≤ length s
   deps-end = lies r .end-in
 
   -- there is room for them
   pub dense-room : {result : List ℤ} → 1802 ≤ length result →
-      HasRoom 0 (h .rank) 0 (take (3 + h .rank - 3) (drop 3 s)) [] (take (h .inputs .next - h .rows .next) (drop (h .rows .next) s)) result
+      PiecesFit 0 (h .rank) 0 (take (3 + h .rank - 3) (drop 3 s)) [] (take (h .inputs .next - h .rows .next) (drop (h .rows .next) s)) result
   unfolding part
   dense-room l =
       let b = lies r in
-      let g = r .plain .head in
+      let g = r .readable .head in
       let rank : length (take (3 + h .rank - 3) (drop 3 s)) ≡ 3 + h .rank - 3 = length-part 3 (3 + h .rank - 3) s (omega arith) in
       let deps : length (take (h .inputs .next - h .rows .next) (drop (h .rows .next) s)) ≡ h .inputs .next - h .rows .next
       = length-part (h .rows .next) (h .inputs .next - h .rows .next) s (omega arith) in
@@ -93,7 +93,7 @@ module _ {h : Head} {s : List ℤ} (r : SoundRecord h s) where
   unfolding toDense gather
   dense-from t =
       let b = lies r in
-      let g = r .plain .head in
+      let g = r .readable .head in
       let size : 3 + h .rank - 3 ≡ h .rank = omega arith in
       let shape : layoutIn s .shape ≡ part 3 (h .rank) (view s) = ap (λ (l : Layout). l .shape) (layout-shown r) in
       let rank : length (layoutIn s .shape) ≡ h .rank = rw shape (length-part 3 (h .rank) (view s) (rw view-length (omega arith))) in
@@ -105,18 +105,18 @@ module _ {h : Head} {s : List ℤ} (r : SoundRecord h s) where
   -- ---- the rows alone
 
   pub rows-start : h .rows .first ≤ h .rows .next
-  rows-start = let g = r .plain .head in omega arith
+  rows-start = let g = r .readable .head in omega arith
 
   pub rows-end : h .rows .next ≤ length s
-  rows-end = let b = lies r in let g = r .plain .head in omega arith
+  rows-end = let b = lies r in let g = r .readable .head in omega arith
 
   -- as many numbers
   rows-count : h .rows .next - h .rows .first ≡ h .rows .count * h .width
-  rows-count = let g = r .plain .head in omega arith
+  rows-count = let g = r .readable .head in omega arith
 
   rows-long : length (take (h .rows .next - h .rows .first) (drop (h .rows .first) s)) ≡ h .rows .next - h .rows .first
   unfolding part
-  rows-long = let b = lies r in let g = r .plain .head in length-part (h .rows .first) (h .rows .next - h .rows .first) s (omega arith)
+  rows-long = let b = lies r in let g = r .readable .head in length-part (h .rows .first) (h .rows .next - h .rows .first) s (omega arith)
 
   -- there is room for them
   pub rows-room : (result : List ℤ) → 1802 ≤ length result → length (take (h .rows .next - h .rows .first) (drop (h .rows .first) s)) ≤ length result
@@ -141,7 +141,7 @@ module _ {h : Head} {s : List ℤ} (r : SoundRecord h s) where
       EndsIn (given (map pos (toDataLayout (layoutIn s)))) old (Numbers (h .rows .next - h .rows .first)) new
   rows-from e =
       let b = lies r in
-      let g = r .plain .head in
+      let g = r .readable .head in
       let rows : layoutIn s .rows ≡ rowsAt (h .rows .first) (h .width) (h .rows .count) s = ap (λ (l : Layout). l .rows) (layout-shown r) in
       let numbers : take (h .rows .next - h .rows .first) (drop (h .rows .first) s) ≡ map pos (toDataLayout (layoutIn s))
       = lent-pos (h .rows .first) (h .rows .next) (omega arith) (omega arith)

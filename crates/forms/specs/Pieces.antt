@@ -12,7 +12,7 @@ pieces kind dense extents count rows deps =
     pos kind ∷ pos dense ∷ pos (length extents) ∷ (extents ++ (pos count ∷ (rows ++ deps)))
 
 -- they are numbers of a slice, and there is room for all
-pub record HasRoom (kind dense count : ℕ) (extents rows deps result : List ℤ) : Type 0 where
+pub record PiecesFit (kind dense count : ℕ) (extents rows deps result : List ℤ) : Type 0 where
   pub kind-small : kind < 2 ^ 31
   pub dense-small : dense < 2 ^ 31
   pub count-small : count < 2 ^ 31

@@ -1,13 +1,13 @@
 // Rows that become a sparse record: judged, then written.
 ghost use mathlib.Core.Path.{_≡_};
-ghost use mathlib.Core.Bool.{true, _&&_};
-ghost use Prim.Native.Nat.{_*_, _≤_, _<_};
+ghost use mathlib.Core.Bool.{_&&_};
+ghost use Prim.Native.Nat.{_*_, _≤_};
 ghost use lib.ListN.{length};
 ghost use lib.Signed.{nonNeg};
-ghost use Rattle.rules.specs.Lists.{all, allBelow};
+ghost use Rattle.rules.specs.Lists.{all};
 ghost use Rattle.rules.specs.Limits.{resultSize};
 ghost use Rattle.rules.specs.Layout.{encode, distinct, wellFormed};
-ghost use Rattle.rules.specs.Record.{rowsOf, naturals, shapeIn};
+ghost use Rattle.rules.specs.Record.{shapeIn};
 ghost use Rattle.rules.specs.Refusals.{inForm};
 ghost use Rattle.rules.specs.Endings.{EndsIn};
 ghost use Rattle.rules.specs.CountsAndForms.{sparse};
@@ -19,25 +19,6 @@ use super::windows::differ_in_windows;
 use super::writing::write_record;
 use rules::Refusal;
 use rules::Written;
-
-// Whether the n rows of w numbers are inside a shape.
-fn rows_inside(shape: &[i32], w: usize, n: usize, numbers: &[i32]) -> bool
-    requires { ⌜ Judged (now shape) ⌝ }
-    requires { ⌜ w ≡ length (shapeIn (now shape)) ⌝ }
-    requires { ⌜ n * w ≤ length (now numbers) ⌝ }
-    ensures { λ r. ⌜ r ≡ all (λ row. allBelow row (shapeIn (now (shape .entry)))) (rowsOf w n (naturals (now (numbers .entry)))) ⌝ }
-{
-    let mut i = 0;
-    while i < n {
-        let at = i * w;
-        let end = at + w;
-        if !lookups::inside(&numbers[at..end], shape) {
-            return false;
-        }
-        i += 1;
-    }
-    true
-}
 
 // Whether no two of n rows inside a shape are the same. Many rows that are not in order are told apart by their numbers.
 fn rows_differ(shape: &[i32], w: usize, n: usize, numbers: &[i32]) -> bool
@@ -67,7 +48,7 @@ fn rows_fit(shape: &[i32], n: usize, numbers: &[i32]) -> bool
     if !records::all_natural(numbers, numbers.len()) {
         return false;
     }
-    if !rows_inside(shape, w, n, numbers) {
+    if !axes::rows_below(numbers, 0, n, shape, 1, w) {
         return false;
     }
     rows_differ(shape, w, n, numbers)

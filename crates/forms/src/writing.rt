@@ -11,7 +11,7 @@ ghost use Rattle.rules.specs.Endings.{EndsIn};
 ghost use Rattle.rules.specs.CountsAndForms.{toDense, toDataLayout, dense, newEmpty, newScalar, diagonal};
 ghost use Rattle.shapes.specs.Judged.{Judged};
 ghost use Rattle.records.specs.Sound.{SoundRecord};
-ghost use Rattle.forms.specs.Pieces.{pieces, HasRoom, noDeps};
+ghost use Rattle.forms.specs.Pieces.{pieces, PiecesFit, noDeps};
 use rules::Head;
 use rules::Refusal;
 use rules::Written;
@@ -26,7 +26,7 @@ pub fn write_record(
     rows: &[i32],
     deps: &[i32],
 ) -> Written
-    requires { ⌜ HasRoom kind dense count (now extents) (now rows) (now deps) (now result) ⌝ }
+    requires { ⌜ PiecesFit kind dense count (now extents) (now rows) (now deps) (now result) ⌝ }
     ensures { λ r. ⌜ EndsIn (given (pieces kind dense (now (extents .entry)) count (now (rows .entry)) (now (deps .entry)))) (now (result .entry)) r (now (result .exit)) ⌝ }
 {
     let rank = extents.len();
@@ -43,7 +43,7 @@ pub fn write_record(
 
 // A record without rows and dependencies is written.
 fn write_shape(result: &mut [i32], kind: usize, dense: usize, extents: &[i32]) -> Written
-    requires { ⌜ HasRoom kind dense 0 (now extents) [] noDeps (now result) ⌝ }
+    requires { ⌜ PiecesFit kind dense 0 (now extents) [] noDeps (now result) ⌝ }
     ensures { λ r. ⌜ EndsIn (given (pieces kind dense (now (extents .entry)) 0 [] noDeps)) (now (result .entry)) r (now (result .exit)) ⌝ }
 {
     let none = [0i32; 2];

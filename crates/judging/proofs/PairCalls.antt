@@ -22,7 +22,7 @@ use Rattle.rules.specs.Record.{layoutIn, sound}
 use Rattle.rules.specs.Arguments.{overRecord}
 use Rattle.rules.specs.Endings.{Ends}
 use Rattle.rules.proofs.Refusing.{Reasons}
-use Rattle.records.specs.Sound.{SoundRecord, soundHead, PlainHead}
+use Rattle.records.specs.Sound.{SoundRecord, soundHead, ReadableHead}
 use Rattle.tables.specs.Tables.{Only}
 use Rattle.parts.specs.Answers.{Says, Finished}
 use Rattle.parts.proofs.Ending.{AboveTwo, Late}
@@ -62,7 +62,7 @@ module _ (rule : Layout → Layout → Verdict Layout) (more : List Reason) (s t
         (r ≡ NotWritten Unsound) × (work′ ≡ over (zeros workSize) work) → Ends (inForm encode call) result work r result work′
     pair-late-first late e f g = pair-late late {why = Unsound} (pair-unsound s t more (unsound-first s t e f)) g
 
-    pub pair-late-second : Reasons AboveTwo more → {p q : Walk} {x : Head} {r : Written} {work′ : List ℤ} → p ≡ soundHead s → PlainHead p s → p ≡ To x → q ≡ soundHead t → q ≡ Broken →
+    pub pair-late-second : Reasons AboveTwo more → {p q : Walk} {x : Head} {r : Written} {work′ : List ℤ} → p ≡ soundHead s → ReadableHead p s → p ≡ To x → q ≡ soundHead t → q ≡ Broken →
         (r ≡ NotWritten Unsound) × (work′ ≡ over (zeros workSize) work) → Ends (inForm encode call) result work r result work′
     pair-late-second late d p h e f g = pair-late late {why = Unsound} (pair-unsound s t more (unsound-second s t d p h e f)) g
 

@@ -13,7 +13,7 @@ use Rattle.rules.specs.Arguments.{overRecord}
 use Rattle.rules.specs.Layout.{Layout}
 use Rattle.rules.specs.Refusals.{Verdict, given, refused, numberOf, Reason, _when_, lowest}
 use Rattle.rules.specs.CountsAndForms.{ofRecords}
-use Rattle.records.specs.Sound.{SoundRecord, soundHead, PlainHead}
+use Rattle.records.specs.Sound.{SoundRecord, soundHead, ReadableHead}
 use Rattle.records.proofs.SoundRecords.{no-head, sound-record}
 use Rattle.judging.specs.declared.Pair.{Pair}
 use Rattle.judging.specs.declared.Pair.the-variants.{Sound, Refused}
@@ -23,7 +23,7 @@ use Rattle.judging.proofs.Judged.{reason-holds, reason-passed}
 -- ---- one record
 
 -- one that has a head is sound
-pub head-sound : (s : List ℤ) {r : Walk} {h : Head} → r ≡ soundHead s → PlainHead r s → r ≡ To h → sound s ≡ true
+pub head-sound : (s : List ℤ) {r : Walk} {h : Head} → r ≡ soundHead s → ReadableHead r s → r ≡ To h → sound s ≡ true
 head-sound s e p f = sound-record s e p f .judged
 
 pub ruleset heads = (no-head, sound-record, head-sound)
@@ -51,7 +51,7 @@ module _ (s t : List ℤ) where
   unsound-first e f = rw (no-head s e f)
 
   -- the second is not
-  pub unsound-second : {q r : Walk} {x : Head} → q ≡ soundHead s → PlainHead q s → q ≡ To x → r ≡ soundHead t → r ≡ Broken →
+  pub unsound-second : {q r : Walk} {x : Head} → q ≡ soundHead s → ReadableHead q s → q ≡ To x → r ≡ soundHead t → r ≡ Broken →
       (sound s && sound t) ≡ false
   unsound-second d p g e f = rw (head-sound s d p g, no-head t e f)
 

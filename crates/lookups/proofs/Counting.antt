@@ -12,11 +12,12 @@ use Rattle.rules.specs.Layout.{Layout}
 use Rattle.rules.specs.Record.{layoutIn, shapeIn}
 use Rattle.rules.specs.CountsAndForms.{nnz}
 use Rattle.cells.specs.View.{view}
+use Rattle.tables.specs.Rows.{rowAt}
 use Rattle.tables.proofs.Rows.{length-rows}
 use Rattle.records.specs.Sound.{SoundRecord}
 use Rattle.records.proofs.Sections.{other-default}
 use Rattle.records.proofs.SoundRecords.{layout-shown, layout-sound}
-use Rattle.lookups.proofs.SoundRecords.{lent-shape, lent-inside}
+use Rattle.lookups.proofs.SoundRecords.{lent-shape, lent-inside, record-shape}
 
 -- a kind stands in the slice
 pub kind-inside : {h : Head} {s : List ℤ} → SoundRecord h s → 0 < length s
@@ -32,9 +33,9 @@ module _ {h : Head} {s : List ℤ} (r : SoundRecord h s) {k : ℕ} (e : k ≡ ge
   kind-sparse m n = let most = layout-sound r .form .kind-most in let same = kind-read in omega arith
 
   -- dense: the product of the extents
-  pub nnz-dense : {n : ℕ} → k ≡ 0 → n ≡ product (shapeIn (take (length s - 2) (drop 2 s))) → n ≡ nnz (layoutIn s)
+  pub nnz-dense : {n : ℕ} → k ≡ 0 → n ≡ product (rowAt 3 (h .rank) s) → n ≡ nnz (layoutIn s)
   unfolding nnz
-  nnz-dense f g = g ∙ rw (lent-shape r, kind-read, f)
+  nnz-dense f g = g ∙ rw (record-shape r, kind-read, f)
 
   -- diagonal: the first extent, which is there
   pub nnz-diagonal : {n : ℕ} → k ≡ 1 → n ≡ getD (shapeIn (take (length s - 2) (drop 2 s))) 0 1 → n ≡ nnz (layoutIn s)

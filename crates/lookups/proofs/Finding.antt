@@ -2,13 +2,13 @@
 use mathlib.Core.Path.{_≡_, refl, sym, ap, _∙_}
 use mathlib.Core.Bool.{Bool, true, false, not}
 use mathlib.Core.List.{List, [], _∷_, map}
-use Prim.Native.Nat.{ℕ, zero, suc, _-_, _<_, _≤_, _^_}
+use Prim.Native.Nat.{ℕ, zero, suc, _+_, _-_, _<_, _≤_, _^_}
 use native.Mathlib.Omega.{arith}
 use borrow.Author.Tests.{eqb-true, eq-eqb, leb-true, not-true, not-false}
 use lib.Dec.{eqb, leb}
 use lib.IntN.{ℤ, pos, negsuc}
 use lib.ListN.{length, getD, take, drop, length-append, length-map, length-take}
-use lib.Seq.{getD-drop, take-at}
+use lib.Seq.{getD-drop, take-at, take-all}
 use Rattle.rules.specs.declared.Head.{Head}
 use Rattle.rules.specs.Limits.{componentLimit}
 use Rattle.rules.specs.Lists.{if, all, allBelow}
@@ -30,14 +30,15 @@ use Rattle.rules.proofs.Tests.{true-both}
 use Rattle.cells.specs.View.{view}
 use Rattle.cells.proofs.View.{view-length, view-pos}
 use Rattle.tables.specs.Rows.{rowAt, rowsAt, HasRow, HasRows}
+use Rattle.tables.proofs.Rows.{row-length}
 use Rattle.records.specs.Sound.{SoundRecord}
 use Rattle.records.proofs.Layouts.{axes, has-rows-there}
-use Rattle.records.proofs.Low.{low-front}
+use Rattle.records.proofs.Naturals.{low-front}
 use Rattle.records.proofs.SoundRecords.{lies, layout-shown}
 use Rattle.shapes.proofs.Judging.{rank-counted}
 use Rattle.shapes.proofs.Reading.{length-naturals, natural-getD}
 use Rattle.lookups.specs.Indices.{IndexRead}
-use Rattle.lookups.proofs.SoundRecords.{shape-shown, shape-judged, lent-shape}
+use Rattle.lookups.proofs.SoundRecords.{shape-shown, shape-judged, lent-shape, record-shape, record-extents}
 use Rattle.lookups.proofs.Counting.{kind-read, kind-sparse}
 
 -- ---- natural numbers in a slice
@@ -124,16 +125,24 @@ module _ {h : Head} {s index read : List ℤ} (r : SoundRecord h s) (i : IndexRe
       let n : ℕ = natural (getD s 2 (pos 0)) in
       rw (i .is) (read-good index (layoutIn s .shape) (both-true (eqb (length index) n) (goodComponents index) (i .good) .1))
 
-  pub read-long : length read ≤ length (shapeIn (take (length s - 2) (drop 2 s)))
-  read-long = rw (lent-shape r) (omega (arith, read-axes))
+  axes-counted : length (layoutIn s .shape) ≡ h .rank
+  axes-counted = rw (← record-shape r) (row-length 3 (h .rank) s (record-extents r .room))
+
+  -- it and the extents lie in their slices
+  pub rows-lie : (0 + h .rank ≤ length read) × (3 + h .rank ≤ length s)
+  rows-lie = (omega (arith, read-axes, axes-counted), record-extents r .room)
 
   pub read-good-index : goodIndex read (length (shapeIn (take (length s - 2) (drop 2 s)))) ≡ true
   read-good-index = rw (lent-shape r) (true-both (eq-eqb (length read) (length (layoutIn s .shape)) read-axes) components)
 
-  module _ {t : Bool} (e : t ≡ allBelow (naturals read) (shapeIn (take (length s - 2) (drop 2 s)))) where
+  whole-read : rowAt 0 (h .rank) read ≡ numbers
+  unfolding part
+  whole-read = rw (i .is, view-pos numbers) (take-all (h .rank) numbers (omega (arith, ap length (i .is), length-map numbers pos, read-axes, axes-counted)))
+
+  module _ {t : Bool} (e : t ≡ allBelow (rowAt 0 (h .rank) read) (rowAt 3 (h .rank) s)) where
     -- whether it is inside the shape
     below : t ≡ allBelow numbers (layoutIn s .shape)
-    below = e ∙ rw (read-numbers, lent-shape r)
+    below = e ∙ rw (whole-read, record-shape r)
 
     -- it is not
     pub place-outside : not t ≡ true → given nothing ≡ given (lookup (layoutIn s) (naturals index))
@@ -162,7 +171,7 @@ module _ {h : Head} {s index read : List ℤ} (r : SoundRecord h s) (i : IndexRe
       wide : width (layoutIn s) ≡ h .width
       wide =
           let b = lies r in
-          let sum = axes (r .plain) in
+          let sum = axes (r .readable) in
           let rank : length (part 3 (h .rank) (view s)) ≡ h .rank = length-part 3 (h .rank) (view s) (rw view-length (omega arith)) in
           rw (layout-shown r) (omega arith)
 
@@ -190,10 +199,10 @@ module _ {h : Head} {s index read : List ℤ} (r : SoundRecord h s) (i : IndexRe
 -- the rows that it is looked for among
 module _ {h : Head} {s : List ℤ} (r : SoundRecord h s) where
   pub rows-there : HasRows (h .rows .first) (h .width) (h .rows .count) s
-  rows-there = has-rows-there (r .plain)
+  rows-there = has-rows-there (r .readable)
 
   pub rows-rise : ordered s ≡ true → Increasing (rowsAt (h .rows .first) (h .width) (h .rows .count) s)
   unfolding ordered
   rows-rise e = increasing-true _ (rw (layout-shown r) at (both-true (sound s) (increasing (layoutIn s .rows)) e .1))
 
-pub ruleset places = (read-long, read-good-index, place-outside, place-raveled, place-alike, place-listed, read-row, rows-there, rows-rise)
+pub ruleset places = (rows-lie, read-good-index, place-outside, place-raveled, place-alike, place-listed, read-row, rows-there, rows-rise)

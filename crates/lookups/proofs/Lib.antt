@@ -1,5 +1,4 @@
 pub mod SoundRecords
-pub mod Multiplying
 pub mod Trailing
 pub mod Counting
 pub mod Reading

@@ -1,22 +1,22 @@
--- `read_index`, `inside` and `all_are`: the components of an index, one after the other. Assumes nothing.
+-- `read_index` and `all_are`: the components of an index, one after the other. Assumes nothing.
 use mathlib.Core.Path.{_≡_, refl, sym, ap, _∙_}
-use mathlib.Core.Bool.{Bool, true, false, _&&_}
+use mathlib.Core.Bool.{Bool, true, false}
 use mathlib.Core.List.{List, [], _∷_, _++_, map, map-append}
 use Prim.Native.Nat.{ℕ, zero, suc, _+_, _≤_, _<_, _^_}
 use native.Mathlib.Numerals.{add-one}
 use native.Mathlib.Omega.{arith}
-use borrow.Author.Tests.{lt-ltb, le-ltb, eq-eqb, ne-eqb}
-use lib.Dec.{eqb, ltb}
+use borrow.Author.Tests.{eq-eqb, ne-eqb}
+use lib.Dec.{eqb}
 use lib.IntN.{ℤ, pos}
-use lib.ListN.{length, getD, take, drop, set, length-take, length-map, drop-of-length-le}
-use lib.Seq.{take-suc, take-all, drop-cons}
-use Rattle.rules.specs.Lists.{if, all, allBelow}
+use lib.ListN.{length, getD, take, set, length-take, length-map}
+use lib.Seq.{take-suc, take-all}
+use Rattle.rules.specs.Lists.{if, all}
 use Rattle.rules.specs.Buffers.{over, zeros}
 use Rattle.rules.specs.Record.{natural, naturals, shapeIn}
 use Rattle.rules.specs.Lookup.{readIndex}
 use Rattle.rules.proofs.Buffers.{over-nil, over-more}
 use Rattle.rules.proofs.Finding.{read-length}
-use Rattle.records.proofs.Passing.{Passed, none-passed, one-more, one-fails, all-passed}
+use Rattle.tables.proofs.Passing.{Passed, none-passed, one-more, one-fails, all-passed}
 use Rattle.shapes.specs.Judged.{Judged}
 use Rattle.shapes.proofs.Judging.{rank-counted, rank-small}
 use Rattle.shapes.proofs.Reading.{length-naturals, natural-there}
@@ -109,45 +109,6 @@ module _ {index shape : List ℤ} {k : ℕ} {out : List ℤ} (r : Reading index 
   read-done h = let n = size in let all : take k read ≡ read = take-all k read (omega arith) in r .is ∙ rw all
 
 pub ruleset reading = (component-low, read-start, read-turn, read-done)
-
--- ---- below the extents
-
--- the first k components are
-pub record Inside (index shape : List ℤ) (k : ℕ) : Type 0 where
-  pub upto : k ≤ length index
-  pub long : length index ≤ length (shapeIn shape)
-  pub eq : allBelow (naturals index) (shapeIn shape) ≡ allBelow (drop k (naturals index)) (drop k (shapeIn shape))
-
--- before the first
-pub inside-start : (index shape : List ℤ) → length index ≤ length (shapeIn shape) → Inside index shape 0
-inside-start index shape h = record { upto = omega arith; long = h; eq = refl }
-
-module _ {index shape : List ℤ} {k : ℕ} (p : Inside index shape k) where
-  module _ {x e : ℕ} (h : k < length index) (f : x ≡ natural (getD index k (pos 0))) (g : e ≡ getD (shapeIn shape) k 1) where
-    -- the next component decides, and those behind it
-    next : allBelow (naturals index) (shapeIn shape) ≡ ltb x e && allBelow (drop (k + 1) (naturals index)) (drop (k + 1) (shapeIn shape))
-    unfolding allBelow
-    next =
-        let one : k < length (naturals index) = rw (length-naturals index) h in
-        let other : k < length (shapeIn shape) = omega (arith, p .long) in
-        p .eq ∙ rw (add-one, drop-cons (naturals index) k 0 one, drop-cons (shapeIn shape) k 1 other, ← natural-there index k f, ← g)
-
-    -- it is below its extent
-    pub inside-turn : x < e → Inside index shape (k + 1)
-    inside-turn l = record { upto = omega arith; long = p .long; eq = next ∙ rw (lt-ltb x e l) }
-
-    -- it is not
-    pub inside-stop : e ≤ x → false ≡ allBelow (naturals index) (shapeIn shape)
-    inside-stop l = sym (next ∙ rw (le-ltb x e l))
-
-  -- all are
-  pub inside-done : length index ≤ k → true ≡ allBelow (naturals index) (shapeIn shape)
-  unfolding allBelow
-  inside-done h =
-      let past : length (naturals index) ≤ k = rw (length-naturals index) h in
-      sym (p .eq ∙ rw (drop-of-length-le (naturals index) {i = k} past))
-
-pub ruleset belows = (inside-start, inside-turn, inside-stop, inside-done)
 
 -- ---- all the same
 

@@ -1,5 +1,5 @@
 -- The shape of a sound record, as the slice that begins at the count of its extents. Assumes nothing.
-use mathlib.Core.Path.{_≡_, refl, ap, _∙_}
+use mathlib.Core.Path.{_≡_, refl, sym, ap, _∙_}
 use mathlib.Core.Bool.{true}
 use mathlib.Core.List.{List}
 use Prim.Native.Nat.{_+_, _-_, _*_, _<_, _≤_}
@@ -15,13 +15,15 @@ use Rattle.rules.specs.declared.Section.{Section}
 use Rattle.rules.specs.declared.Section.the-variants.{Whole, Cut}
 use Rattle.rules.specs.Lists.{all}
 use Rattle.rules.specs.Buffers.{part}
-use Rattle.rules.specs.Layout.{withinProduct}
+use Rattle.rules.specs.Layout.{Layout, withinProduct}
 use Rattle.rules.specs.Record.{natural, entriesFrom, sectionAt, layoutBy, layoutIn, shapeIn, goodExtents, goodShape}
 use Rattle.rules.proofs.RowsRead.{all-part}
 use Rattle.rules.proofs.Same.{both-true, true-not-false}
+use Rattle.tables.specs.Rows.{rowAt}
+use Rattle.axes.specs.Extents.{Extents}
 use Rattle.records.specs.Sound.{SoundRecord}
 use Rattle.records.proofs.Sections.{other-default}
-use Rattle.records.proofs.SoundRecords.{lies, numbers-natural, layout-sound}
+use Rattle.records.proofs.SoundRecords.{lies, numbers-natural, layout-shown, layout-sound}
 use Rattle.records.proofs.EndToEnd.{to-end}
 use Rattle.shapes.specs.Judged.{Judged}
 
@@ -31,7 +33,7 @@ module _ {h : Head} {s : List ℤ} (r : SoundRecord h s) where
   count-first d =
       let b = lies r in
       let long : 2 < length s = omega arith in
-      getD-drop 2 s 0 d ∙ other-default s 2 d (pos 0) long ∙ r .plain .head .rank
+      getD-drop 2 s 0 d ∙ other-default s 2 d (pos 0) long ∙ r .readable .head .rank
 
   -- behind it stand the extents
   extents-behind : part 1 (h .rank) (drop 2 s) ≡ part 3 (h .rank) s
@@ -69,6 +71,14 @@ module _ {h : Head} {s : List ℤ} (r : SoundRecord h s) where
   pub lent-inside : 2 ≤ length s
   lent-inside = let b = lies r in omega arith
 
+  -- its extents as they stand in the record
+  pub record-shape : rowAt 3 (h .rank) s ≡ layoutIn s .shape
+  record-shape = sym (ap (λ (l : Layout). l .shape) (layout-shown r))
+
+  pub record-extents : Extents 3 (h .rank) s
+  unfolding withinProduct
+  record-extents = let b = lies r in record { room = omega arith; within = rw record-shape (le-leb _ _ (layout-sound r .sizes .product-most)) }
+
 -- a good shape's extents are within the limit
 pub shape-within : (s : List ℤ) → goodShape s ≡ true → withinProduct (shapeIn s) ≡ true
 unfolding goodShape
@@ -78,4 +88,4 @@ shape-within s e = by (sectionAt 0 1 s) e
     by (Whole x) q = both-true (all nonNeg (part 1 (x .count) s)) (withinProduct (shapeIn s)) q .1
     by Cut q = absurd (true-not-false q refl)
 
-pub ruleset lent = (lent-judged, lent-inside)
+pub ruleset lent = (lent-judged, lent-inside, record-extents)

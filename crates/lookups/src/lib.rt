@@ -5,4 +5,3 @@ mod counts; // counts.rt: how many positions and axes
 pub use counts::min_rank;
 pub use counts::nnz;
 pub use lookup::find;
-pub use lookup::inside;

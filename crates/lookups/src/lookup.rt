@@ -2,11 +2,10 @@
 ghost use mathlib.Core.Path.{_≡_};
 ghost use mathlib.Core.Bool.{true};
 ghost use mathlib.Core.List.{map};
-ghost use Prim.Native.Nat.{_<_, _≤_};
 ghost use lib.Dec.{eqb};
 ghost use lib.IntN.{pos};
 ghost use lib.ListN.{length, getD};
-ghost use Rattle.rules.specs.Lists.{if, all, allBelow};
+ghost use Rattle.rules.specs.Lists.{if, all};
 ghost use Rattle.rules.specs.Buffers.{over, zeros};
 ghost use Rattle.rules.specs.RowsInOrder.{Increasing};
 ghost use Rattle.rules.specs.Record.{natural, naturals, shapeIn, layoutIn, ordered};
@@ -47,22 +46,6 @@ fn read_index(index: &[i32], shape: &[i32]) -> [i32; 4]
         k += 1;
     }
     read
-}
-
-// Whether each component is below the extent of its axis.
-pub fn inside(index: &[i32], shape: &[i32]) -> bool
-    requires { ⌜ Judged (now shape) ⌝ }
-    requires { ⌜ length (now index) ≤ length (shapeIn (now shape)) ⌝ }
-    ensures { λ r. ⌜ r ≡ allBelow (naturals (now (index .entry))) (shapeIn (now (shape .entry))) ⌝ }
-{
-    let mut k = 0;
-    while k < index.len() {
-        if shapes::extent(shape, k) <= shapes::natural_at(index, k) {
-            return false;
-        }
-        k += 1;
-    }
-    true
 }
 
 // Whether every component is v.
@@ -109,7 +92,7 @@ fn place_of(s: &[i32], head: Head, index: &[i32], read: &[i32]) -> Place
     requires { ⌜ IndexRead (now s) (now index) (now read) ⌝ }
     ensures { λ r. ⌜ placeSays r ≡ given (lookup (layoutIn (now (s .entry))) (naturals (now (index .entry)))) ⌝ }
 {
-    if !inside(read, &s[2..]) {
+    if !axes::row_below(read, 0, s, 3, head.rank) {
         return Place::Nothing;
     }
     let kind = cells::get(s, 0);

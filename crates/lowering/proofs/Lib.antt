@@ -1,6 +1,5 @@
 -- The laws that the proofs of lowering share.
-pub mod Products
-pub mod Tails
+pub mod LastAxes
 pub mod Taking
 pub mod RowTails
 pub mod FullRows

@@ -1,14 +1,16 @@
 -- `list_row`: the row with the first indices of the last axes behind it is in the table. Assumes nothing.
 use mathlib.Core.Path.{_≡_, refl, sym, _∙_}
 use mathlib.Core.Bool.{Bool, true, false}
-use mathlib.Core.List.{List, [], _++_}
-use Prim.Native.Nat.{ℕ, _+_, _^_, _<_, _≤_}
+use mathlib.Core.List.{List, [], _++_, map}
+use Prim.Native.Nat.{ℕ, _+_, _-_, _^_, _<_, _≤_}
 use native.Mathlib.Omega.{arith}
-use lib.IntN.{ℤ}
+use lib.IntN.{ℤ, pos}
 use lib.ListN.{length, getD, take, length-map, List·getD-eq-default}
 use lib.Seq.{getD-drop}
 use Rattle.rules.specs.Limits.{productLimit}
-use Rattle.rules.specs.Lists.{allBelow}
+use Rattle.rules.specs.Lists.{allBelow, product}
+use Rattle.rules.specs.Buffers.{put}
+use Rattle.rules.specs.Positions.{unravel}
 use Rattle.rules.specs.Removal.{positions}
 use Rattle.rules.proofs.Order.{ComparedNumbers, under, even, above, compareNumbers}
 use Rattle.rules.proofs.Extents.{extent-nonzero}
@@ -20,8 +22,10 @@ use Rattle.cells.specs.View.{Low}
 use Rattle.tables.specs.Rows.{rowAt, HasRow}
 use Rattle.tables.specs.Tables.{Ready, Put}
 use Rattle.tables.proofs.Only.{row-outside}
+use Rattle.axes.specs.Extents.{IndexAsked}
 use Rattle.parts.proofs.Packing.{low-append}
-use Rattle.lowering.specs.Lowering.{lastAxes, TailAsked, withTails, Taken, RowAsked}
+use Rattle.lowering.specs.Lowering.{Axes, lastAxes, withTails, Taken, RowAsked}
+use Rattle.lowering.proofs.LastAxes.{ask-index, next-length, next-front, next-row}
 use Rattle.lowering.proofs.Taking.{taken-none, taken-all, taken-next, taken-over}
 
 -- ---- numbers that are not negative
@@ -48,13 +52,14 @@ index-low axes f n h k = go (compareNumbers k (length index))
 
 pub record RowTails (from extents w rank size to number : ℕ) (row s t : List ℤ) : Type 0 where
   pub asked : RowAsked from extents w rank size to s
+  pub row-long : length row ≡ 5
   pub row-is : rowAt 0 w row ≡ rowAt from w s
   pub upto : number ≤ size
   pub taken : Taken to rank (take number (withTails (rowAt from w s) (lastAxes extents w rank s))) s t true
 
 module _ {from extents w rank size to : ℕ} {row s : List ℤ} where
-  pub start : RowAsked from extents w rank size to s → rowAt 0 w row ≡ rowAt from w s → RowTails from extents w rank size to 0 row s s
-  start a e = record { asked = a; row-is = e; upto = omega arith; taken = taken-none (a .target) }
+  pub start : RowAsked from extents w rank size to s → length row ≡ 5 → rowAt 0 w row ≡ rowAt from w s → RowTails from extents w rank size to 0 row s s
+  start a l e = record { asked = a; row-long = l; row-is = e; upto = omega arith; taken = taken-none (a .target) }
 
   module _ {number : ℕ} {t : List ℤ} (g : RowTails from extents w rank size to number row s t) where
     abbrev axes : List ℕ
@@ -69,15 +74,12 @@ module _ {from extents w rank size to : ℕ} {row s : List ℤ} where
     shape-same : rowAt extents rank t ≡ rowAt extents rank s
     shape-same = row-outside (g .taken .only) extents rank (g .asked .axes-apart)
 
-    pub ask-tail : number < size → TailAsked extents w rank number t
-    ask-tail h = record {
-      axes = record {
-        room = rw (g .taken .only .size) (g .asked .axes .room);
-        upto = g .asked .axes .upto;
-        narrow = g .asked .axes .narrow;
-        small = rw shape-same (g .asked .axes .small);
-      };
-      within = rw (shape-same, ← g .asked .size-is) h;
+    axes-there : Axes extents w rank t
+    axes-there = record {
+      room = rw (g .taken .only .size) (g .asked .axes .room);
+      upto = g .asked .axes .upto;
+      narrow = g .asked .axes .narrow;
+      small = rw shape-same (g .asked .axes .small);
     }
 
     pub can-take : Ready to rank t
@@ -86,35 +88,44 @@ module _ {from extents w rank size to : ℕ} {row s : List ℤ} where
     pub done : size ≤ number → Taken to rank rows s t true
     done h = taken-all number rows (g .taken) (rw count h)
 
-    module _ (h : number < size) (full : List ℤ) (is : rowAt 0 rank full ≡ rowAt 0 w row ++ getD (positions (lastAxes extents w rank t)) number []) where
-      next : rowAt 0 rank full ≡ getD rows number []
-      next =
-          is ∙ rw (g .row-is, shape-same)
-          (sym (map-at (λ t. rowAt from w s ++ t) (positions axes) number [] [] (rw (positions-length, ← g .asked .size-is) h)))
+    module _ (h : number < size) where
+      within : number < product (lastAxes extents w rank t)
+      within = rw (shape-same, ← g .asked .size-is) h
 
-      next-low : Low (rowAt 0 rank full)
-      next-low =
-          let inside : number < length (positions axes) = rw (positions-length, ← g .asked .size-is) h in
-          let extent : (k : ℕ) → getD axes k 0 ≤ productLimit =
-          λ k. rw getD-drop (omega (arith, extent-nonzero (rowAt extents rank s) (w + k) 0 (omega arith), g .asked .axes .small)) in
-          rw (is, g .row-is, shape-same) (low-append (rowAt from w s) (getD (positions axes) number []) (g .asked .row .low) (index-low axes extent number inside))
+      pub ask-tail : IndexAsked (extents + w) (rank - w) t w row
+      ask-tail = ask-index axes-there row (g .row-long) within
 
-      pub full-row : length full ≡ 5 → HasRow 0 rank full
-      full-row l = record { room = let n = g .asked .axes .narrow in omega arith; low = next-low }
+      module _ {next : List ℤ} (is : next ≡ put w (map pos (unravel number (rowAt (extents + w) (rank - w) t))) row) where
+        next-is : rowAt 0 rank next ≡ rowAt from w s ++ getD (positions axes) number []
+        next-is = next-row axes-there row (g .row-long) within is ∙ rw (g .row-is, shape-same)
 
-      module _ {u : List ℤ} {r : Bool} (p : Put to rank (rowAt 0 rank full) t u r) where
-        put-next : Put to rank (getD rows number []) t u r
-        put-next = rw next at p
+        next-at : rowAt 0 rank next ≡ getD rows number []
+        next-at = next-is ∙ sym (map-at (λ t. rowAt from w s ++ t) (positions axes) number [] [] (rw (positions-length, ← g .asked .size-is) h))
 
-        pub turn : r ≡ true → RowTails from extents w rank size to (number + 1) row s u
-        turn e = record {
-          asked = g .asked;
-          row-is = g .row-is;
-          upto = omega arith;
-          taken = taken-next number rows (g .taken) (rw count h) e (rw next at next-low) put-next;
-        }
+        next-low : Low (rowAt 0 rank next)
+        next-low =
+            let inside : number < length (positions axes) = rw (positions-length, ← g .asked .size-is) h in
+            let extent : (k : ℕ) → getD axes k 0 ≤ productLimit =
+            λ k. rw getD-drop (omega (arith, extent-nonzero (rowAt extents rank s) (w + k) 0 (omega arith), g .asked .axes .small)) in
+            rw next-is (low-append (rowAt from w s) (getD (positions axes) number []) (g .asked .row .low) (index-low axes extent number inside))
 
-        pub stop : r ≡ false → Taken to rank rows s u false
-        stop e = taken-over number rows (g .taken) (rw count h) e (rw next at next-low) put-next
+        pub full-row : HasRow 0 rank next
+        full-row = record { room = let n = g .asked .axes .narrow in omega (arith, next-length axes-there row (g .row-long) within is); low = next-low }
+
+        module _ {u : List ℤ} {r : Bool} (p : Put to rank (rowAt 0 rank next) t u r) where
+          put-next : Put to rank (getD rows number []) t u r
+          put-next = rw next-at at p
+
+          pub turn : r ≡ true → RowTails from extents w rank size to (number + 1) next s u
+          turn e = record {
+            asked = g .asked;
+            row-long = next-length axes-there row (g .row-long) within is;
+            row-is = next-front axes-there row (g .row-long) within is ∙ g .row-is;
+            upto = omega arith;
+            taken = taken-next number rows (g .taken) (rw count h) e (rw next-at at next-low) put-next;
+          }
+
+          pub stop : r ≡ false → Taken to rank rows s u false
+          stop e = taken-over number rows (g .taken) (rw count h) e (rw next-at at next-low) put-next
 
 pub ruleset laws = (start, ask-tail, can-take, full-row, turn, stop, done)

@@ -29,11 +29,6 @@ pub record Axes (at w rank : ℕ) (s : List ℤ) : Type 0 where
 abbrev pub lastAxes : ℕ → ℕ → ℕ → List ℤ → List ℕ
 lastAxes at w rank s = drop w (rowAt at rank s)
 
--- and the number of one of their indices
-pub record TailAsked (at w rank number : ℕ) (s : List ℤ) : Type 0 where
-  pub axes : Axes at w rank s
-  pub within : number < product (lastAxes at w rank s)
-
 -- a row with each index of the last axes behind it
 abbrev pub withTails : List ℕ → List ℕ → List (List ℕ)
 withTails row axes = map (λ t. row ++ t) (positions axes)

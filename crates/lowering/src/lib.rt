@@ -1,51 +1,19 @@
 // The rows of a layout in a part of the working slice, with a smaller D, put in order into a table of the slice.
 ghost use mathlib.Core.Path.{_≡_};
-ghost use mathlib.Core.List.{[], _++_};
 ghost use Prim.Native.Nat.{_-_};
-ghost use lib.ListN.{getD};
 ghost use Rattle.rules.specs.Lists.{product as productOf};
-ghost use Rattle.rules.specs.Removal.{positions, fullRows};
+ghost use Rattle.rules.specs.Removal.{fullRows};
 ghost use Rattle.rules.specs.Pairs.{lowered};
 ghost use Rattle.tables.specs.Rows.{rowAt};
 ghost use Rattle.parts.specs.Parts.{rankAt, layoutAt};
-ghost use Rattle.lowering.specs.Lowering.{Axes, lastAxes, TailAsked, withTails, RowAsked, Taken, FullAsked, DiagonalAsked, diagonalOf, LowerAsked, Listed};
+ghost use Rattle.lowering.specs.Lowering.{Axes, lastAxes, withTails, RowAsked, Taken, FullAsked, DiagonalAsked, diagonalOf, LowerAsked, Listed};
 
 // The product of the extents from axis w on, of the shape of `rank` extents at a place.
 pub fn product(s: &[i32], at: usize, w: usize, rank: usize) -> usize
     requires { ⌜ Axes at w rank (now s) ⌝ }
     ensures { λ r. ⌜ r ≡ productOf (lastAxes at w rank (now (s .entry))) ⌝ }
 {
-    let mut size = 1;
-    let mut k = rank;
-    while w < k {
-        k -= 1;
-        size *= cells::get(s, at + k);
-    }
-    size
-}
-
-// A row with an index of the last axes behind its first w numbers: the one with that number, counted in order.
-pub fn with_tail(
-    row: [i32; 5],
-    s: &[i32],
-    extents: usize,
-    w: usize,
-    rank: usize,
-    number: usize,
-) -> [i32; 5]
-    requires { ⌜ TailAsked extents w rank number (now s) ⌝ }
-    ensures { λ r. ⌜ rowAt 0 rank r ≡ rowAt 0 w row ++ getD (positions (lastAxes extents w rank (now (s .entry)))) number [] ⌝ }
-{
-    let mut full = row;
-    let mut left = number;
-    let mut k = rank;
-    while w < k {
-        k -= 1;
-        let extent = cells::get(s, extents + k);
-        full[k] = cells::whole(left % extent);
-        left = left / extent;
-    }
-    full
+    axes::product(s, at + w, rank - w)
 }
 
 // The row at a place, with each index of the last axes behind it, is put into the table; false where that makes too many rows.
@@ -61,11 +29,11 @@ pub fn list_row(
     requires { ⌜ RowAsked from extents w rank size to (now s) ⌝ }
     ensures { λ r. ⌜ Taken to rank (withTails (rowAt from w (now (s .entry))) (lastAxes extents w rank (now (s .entry)))) (now (s .entry)) (now (s .exit)) r ⌝ }
 {
-    let row = tables::read_row(s, from, w);
+    let mut row = tables::read_row(s, from, w);
     let mut number = 0;
     while number < size {
-        let full = with_tail(row, s, extents, w, rank, number);
-        if !tables::put_row(s, to, rank, &full, 0) {
+        axes::unravel_into(number, s, extents + w, rank - w, &mut row, w);
+        if !tables::put_row(s, to, rank, &row, 0) {
             return false;
         }
         number += 1;

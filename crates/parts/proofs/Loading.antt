@@ -20,7 +20,7 @@ use Rattle.tables.proofs.Rows.{row-number, rows-part}
 use Rattle.tables.proofs.Tables.{table-rows}
 use Rattle.tables.proofs.Only.{only-then, only-wider, only-put, part-outside}
 use Rattle.records.specs.Sections.{Laid}
-use Rattle.records.specs.Judging.{Plain}
+use Rattle.records.specs.Judging.{Readable}
 use Rattle.records.specs.Sound.{SoundRecord}
 use Rattle.records.proofs.Layouts.{axes, seen, has-states, has-inputs}
 use Rattle.records.proofs.SoundRecords.{lies, layout-sound, layout-shown}
@@ -67,9 +67,9 @@ section-size : {i w : ℕ} {s : List ℤ} {e : Entries} → Laid i w s e → (ge
 section-size {i} {w} {s} {e} l = (view-getD s i ∙ ap code (l .count), omega arith)
 
 module _ {h : Head} {s : List ℤ} (r : SoundRecord h s) where
-  -- the record is plain
-  p : Plain h s
-  p = r .plain
+  -- the record is readable
+  p : Readable h s
+  p = r .readable
 
   pub places : Places h s
   places =

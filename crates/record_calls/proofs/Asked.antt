@@ -16,7 +16,7 @@ use Rattle.lookups.proofs.SoundRecords.{lent-shape}
 pub index-counted : (s index : List ℤ) {h : Head} {b : Bool} → SoundRecord h s → b ≡ goodIndex index (h .rank) →
     b ≡ goodIndex index (natural (getD s 2 (pos 0)))
 unfolding natural
-index-counted s index r g = g ∙ rw (r .plain .head .rank)
+index-counted s index r g = g ∙ rw (r .readable .head .rank)
 
 -- what was read of the shape is so of the layout's
 pub min-rank-read : {s : List ℤ} {h : Head} {n : ℕ} → SoundRecord h s → n ≡ minRankOf (shapeIn (take (length s - 2) (drop 2 s))) →

@@ -27,13 +27,13 @@ use Rattle.cells.specs.View.{view, Low, signOf}
 use Rattle.cells.proofs.Signed.{held, back}
 use Rattle.records.specs.Slices.{BeginsAt}
 use Rattle.records.specs.Heads.{HeadOf}
-use Rattle.records.specs.Judging.{Plain, fewEntries}
+use Rattle.records.specs.Judging.{Readable, fewEntries}
 use Rattle.records.specs.Sound.{SoundRecord, soundHead}
 use Rattle.records.proofs.Sections.{sign-natural, sign-negative}
-use Rattle.records.proofs.RowTests.{row-room}
+use Rattle.tables.proofs.Passing.{row-room}
 use Rattle.records.proofs.InTurn.{first-fails, first-holds}
 use Rattle.records.proofs.Layouts.{rows-room}
-use Rattle.records.proofs.SoundRecords.{plain-head, sound-record, no-head}
+use Rattle.records.proofs.SoundRecords.{readable-head, sound-record, no-head}
 
 -- ---- a record of too many entries is not sound
 
@@ -89,9 +89,9 @@ module _ {h : Head} {s : List ℤ} (g : HeadOf h s) {t₁ : Bool} (e₁ : t₁ �
   too-many f = sym (rw (many-entries g (sym e₁ ∙ not-true t₁ f)) (and-false (all nonNeg (take (h .inputs .next) s))))
 
   module _ (f₁ : not t₁ ≡ false) {t₂ : Bool} where
-    -- it is plain
-    pub is-plain : (t₂ ≡ true → Low (take (h .inputs .next) (view s))) → not t₂ ≡ false → Plain h s
-    is-plain low f = record { head = g; few = sym e₁ ∙ not-false t₁ f₁; low = low (not-false t₂ f) }
+    -- it is readable
+    pub is-readable : (t₂ ≡ true → Low (take (h .inputs .next) (view s))) → not t₂ ≡ false → Readable h s
+    is-readable low f = record { head = g; few = sym e₁ ∙ not-false t₁ f₁; low = low (not-false t₂ f) }
 
 module _ (h : Head) (s : List ℤ) {t : Bool} (e : t ≡ all nonNeg (take (h .inputs .next) s)) where
   -- it has a negative number
@@ -109,11 +109,11 @@ module _ (h : Head) (s : List ℤ) {t : Bool} (e : t ≡ all nonNeg (take (h .in
     unfolding soundLayout
     by-size k q = q ∙ sym (first-holds e f ∙ first-holds d k)
 
-pub ruleset judged = (too-many, is-plain, is-negative, is-deformed, by-size)
+pub ruleset judged = (too-many, is-readable, is-negative, is-deformed, by-size)
 
 -- ---- a row of it: `row_of` and `row`
 
-module _ {h : Head} {s : List ℤ} (p : Plain h s) (i : ℕ) where
+module _ {h : Head} {s : List ℤ} (p : Readable h s) (i : ℕ) where
   -- there is no row i
   pub no-row : h .rows .count ≤ i → [] ≡ rowPart i (To h) s
   no-row l = rw (le-ltb i (h .rows .count))
@@ -197,6 +197,6 @@ module _ (s : List ℤ) (z : ℤ) where
     unfolding rowPlace
     found-place r f = rw (sign-natural z (asked ∙ f), r .judged, r .walked)
 
-pub ruleset rows = (plain-head, sound-record, unsound-row, negative-row, found-row)
+pub ruleset rows = (readable-head, sound-record, unsound-row, negative-row, found-row)
 
 pub ruleset places = (sound-record, unsound-place, negative-place, found-place)

@@ -1,4 +1,4 @@
--- The tests of soundness, each as it is put to the slice of a plain record. Assumes nothing.
+-- The tests of soundness, each as it is put to the slice of a readable record. Assumes nothing.
 use mathlib.Core.Path.{_≡_, refl, sym, ap, _∙_}
 use mathlib.Core.Bool.{Bool, true, false, _&&_}
 use mathlib.Core.List.{List, [], _∷_}
@@ -21,8 +21,8 @@ use Rattle.cells.specs.View.{view}
 use Rattle.cells.proofs.View.{view-length}
 use Rattle.tables.specs.Rows.{rowsAt}
 use Rattle.tables.proofs.Rows.{row-length, length-rows, row-of}
-use Rattle.records.specs.Judging.{Plain, below, rowsBelow, small, smallDep, smallDeps}
-use Rattle.records.proofs.RowTests.{row-room}
+use Rattle.records.specs.Judging.{Readable, below, rowsBelow, small, smallDep, smallDeps}
+use Rattle.tables.proofs.Passing.{row-room}
 use Rattle.records.proofs.Layouts.{seen, Bounds, bounds, axes}
 
 -- ---- tests of all rows
@@ -70,7 +70,7 @@ one-test a b c d f g = by (eqb a b) refl
 
 -- ---- the tests, put to the slice
 
-module _ {h : Head} {s : List ℤ} (p : Plain h s) where
+module _ {h : Head} {s : List ℤ} (p : Readable h s) where
   -- where its sections lie
   b : Bounds h s
   b = bounds p
@@ -113,7 +113,6 @@ module _ {h : Head} {s : List ℤ} (p : Plain h s) where
 
   -- the rows fit
   pub rows-seen : all (rowFits (seen h s)) (seen h s .rows) ≡ rowsBelow (h .rows .first) (h .width) (h .rows .count) s
-  unfolding rowsBelow
   rows-seen = all-agree (rowFits (seen h s)) (below (h .width) s) (seen h s .rows) agree
     where
       agree : Each (λ r. rowFits (seen h s) r ≡ below (h .width) s r) (seen h s .rows)

@@ -1,4 +1,4 @@
--- The layout of a plain record, as its slice shows it. Assumes nothing.
+-- The layout of a readable record, as its slice shows it. Assumes nothing.
 use mathlib.Core.Path.{_≡_, refl, sym, ap, _∙_}
 use mathlib.Core.Bool.{Bool, true, false}
 use mathlib.Core.List.{List}
@@ -18,8 +18,8 @@ use Rattle.rules.proofs.Same.{both-true}
 use Rattle.cells.specs.View.{code, view, Low}
 use Rattle.cells.proofs.View.{view-getD, low-pos}
 use Rattle.tables.specs.Rows.{rowsAt, HasRows}
-use Rattle.records.specs.Judging.{Plain, fewEntries}
-use Rattle.records.proofs.Low.{has-rows, naturals-part, entries-seen}
+use Rattle.records.specs.Judging.{Readable, fewEntries}
+use Rattle.records.proofs.Naturals.{has-rows, naturals-part, entries-seen}
 
 -- ---- bounds
 
@@ -36,7 +36,7 @@ difference r (suc d) w e = by (ltb r (suc d)) refl
     by true f = absurd (let z : _≡_ {A = ℕ} 0 1 = cc (rw f at e) in omega arith)
     by false f = let least = ltb-false r (suc d) f in let same : r - suc d ≡ w = one-natural (rw f at e) in omega arith
 
--- where the sections of a plain record lie, all of it within the slice
+-- where the sections of a readable record lie, all of it within the slice
 pub record Bounds (h : Head) (s : List ℤ) : Type 0 where
   pub rank-few : h .rank ≤ 4
   pub rows-few : h .rows .count ≤ 128
@@ -55,7 +55,7 @@ low-natural k size s h f =
     let low : code (getD s k (pos 0)) < 2 ^ 31 = rw (getD-take size (view s) k 0 h, view-getD s k) at (f k) in
     low-pos (getD s k (pos 0)) low ∙ ap pos (sym (view-getD s k))
 
-module _ {h : Head} {s : List ℤ} (p : Plain h s) where
+module _ {h : Head} {s : List ℤ} (p : Readable h s) where
   -- D and the width of the rows make up the rank
   pub axes : getD (view s) 1 0 + h .width ≡ h .rank
   axes =
@@ -102,7 +102,7 @@ seen h s = record {
   inputs = rowsAt (h .inputs .first) (h .rank + 1) (h .inputs .count) s;
 }
 
-module _ {h : Head} {s : List ℤ} (p : Plain h s) where
+module _ {h : Head} {s : List ℤ} (p : Readable h s) where
   -- the rows lie in the slice
   pub rows-room : h .rows .first + h .rows .count * h .width ≤ length s
   rows-room = omega (arith, bounds p)

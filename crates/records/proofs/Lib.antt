@@ -1,9 +1,10 @@
 -- Laws about records in a slice.
 --     Sections, Walks                        where a section lies, and a record
---     InTurn, Passing                        tests put one after the other
---     Numbers, Counts, Below, Products       tests of numbers
+--     InTurn                                 tests put one after the other
+--     Numbers, Counts                        tests of numbers
 --     RowTests, KindTests                    tests of rows, and of kinds
---     Low, Layouts, Conjuncts, Soundness     a plain record, its layout, and its soundness
+--     Naturals                               numbers that are natural and small
+--     Layouts, Conjuncts, Soundness          a readable record, its layout, and its soundness
 --     SoundRecords                           a record that was judged
 --     Answers                                what is answered about any record
 --     EndToEnd                               things end to end, walked from one to the next
@@ -11,12 +12,9 @@
 pub mod Sections
 pub mod Walks
 pub mod InTurn
-pub mod Passing
-pub mod Low
+pub mod Naturals
 pub mod Numbers
 pub mod Counts
-pub mod Below
-pub mod Products
 pub mod RowTests
 pub mod KindTests
 pub mod Layouts

@@ -21,8 +21,8 @@ use Rattle.cells.proofs.View.{view-getD}
 use Rattle.tables.proofs.Rows.{row-length, row-number}
 use Rattle.records.specs.Judging.{small}
 use Rattle.records.proofs.Sections.{sign-natural, sign-negative, size-natural}
-use Rattle.records.proofs.Low.{low-front}
-use Rattle.records.proofs.Passing.{Passed, none-passed, one-more, one-fails, all-passed}
+use Rattle.records.proofs.Naturals.{low-front}
+use Rattle.tables.proofs.Passing.{Passed, none-passed, one-more, one-fails, all-passed}
 
 -- ---- none is negative
 

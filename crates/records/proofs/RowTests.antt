@@ -1,12 +1,10 @@
--- `rows_below`, `rows_fit` and `small_deps`: the rows of a section put to a test. Assumes nothing.
+-- `rows_fit` and `small_deps`: the rows of a section put to a test. Assumes nothing.
 use mathlib.Core.Path.{_≡_, sym, _∙_}
 use mathlib.Core.Bool.{Bool, true, false, not}
-use mathlib.Core.List.{List, []}
+use mathlib.Core.List.{List}
 use Prim.Native.Nat.{ℕ, _+_, _*_, _<_, _≤_}
 use native.Mathlib.Omega.{arith}
-use borrow.Author.Tests.{not-true, not-false}
 use lib.IntN.{ℤ}
-use lib.ListN.{getD}
 use lib.Seq.{take-take}
 use Rattle.rules.specs.declared.Entries.{Entries}
 use Rattle.rules.specs.Lists.{all}
@@ -14,47 +12,9 @@ use Rattle.rules.specs.Buffers.{part}
 use Rattle.rules.specs.Layout.{distinct}
 use Rattle.cells.specs.View.{view}
 use Rattle.tables.specs.Rows.{rowAt, rowsAt}
-use Rattle.tables.proofs.Rows.{length-rows, row-of, row-ends}
-use Rattle.records.specs.Judging.{below, rowsBelow, rowsFit, small, smallDep, smallDeps}
+use Rattle.tables.proofs.Passing.{Passed, all-passed, rows-start, rows-more, rows-fail}
+use Rattle.records.specs.Judging.{rowsBelow, rowsFit, small, smallDep, smallDeps}
 use Rattle.records.proofs.InTurn.{first-fails, first-holds}
-use Rattle.records.proofs.Passing.{Passed, none-passed, one-more, one-fails, all-passed}
-
--- a row ends where the rows do, or before
-pub row-room : (a w : ℕ) {i n size : ℕ} → i < n → a + n * w ≤ size → a + i * w + w ≤ size
-row-room a w h l = let e = row-ends w h in omega arith
-
-module _ {test : List ℕ → Bool} (a w n : ℕ) (s : List ℤ) where
-  -- none has been put to it
-  pub rows-start : Passed test n 0 (rowsAt a w n s)
-  rows-start = none-passed (length-rows a w n s)
-
-  module _ {i : ℕ} {t : Bool} (p : Passed test n i (rowsAt a w n s)) (h : i < n) (e : t ≡ test (rowAt (a + i * w) w s)) where
-    -- row i stands i rows on
-    tested : t ≡ test (getD (rowsAt a w n s) i [])
-    tested = rw (row-of a w n s i h) e
-
-    -- it passes
-    pub rows-more : not t ≡ false → Passed test n (i + 1) (rowsAt a w n s)
-    rows-more q = one-more p [] h tested (not-false t q)
-
-    -- it does not pass
-    pub rows-fail : not t ≡ true → false ≡ all test (rowsAt a w n s)
-    rows-fail q = one-fails p [] h tested (not-true t q)
-
--- ---- components below the extents
-
-module _ (a w n : ℕ) (s : List ℤ) {i : ℕ} (p : Passed (below w s) n i (rowsAt a w n s)) where
-  -- a row has a component that is not
-  pub below-fail : {t : Bool} → i < n → t ≡ below w s (rowAt (a + i * w) w s) → not t ≡ true → false ≡ rowsBelow a w n s
-  unfolding rowsBelow
-  below-fail h e q = rows-fail a w n s p h e q
-
-  -- no row has
-  pub all-below : n ≤ i → true ≡ rowsBelow a w n s
-  unfolding rowsBelow
-  all-below h = all-passed p h
-
-pub ruleset belows = (rows-start, rows-more, below-fail, all-below)
 
 -- ---- small components of dependencies
 

@@ -21,8 +21,8 @@ use Rattle.rules.proofs.Same.{both-true}
 use Rattle.rules.proofs.Walked.{one-head}
 use Rattle.tables.specs.Rows.{rowsAt, HasRows}
 use Rattle.records.specs.Heads.{HeadOf}
-use Rattle.records.specs.Judging.{Plain, PlainRecord}
-use Rattle.records.specs.Sound.{SoundRecord, soundHead, PlainHead}
+use Rattle.records.specs.Judging.{Readable, ReadableRecord}
+use Rattle.records.specs.Sound.{SoundRecord, soundHead, ReadableHead}
 use Rattle.records.proofs.Walks.{walked-head}
 use Rattle.records.proofs.Layouts.{Bounds, bounds, seen, layout-seen, has-rows-there}
 
@@ -60,17 +60,17 @@ module _ (s : List ℤ) {r : Walk} (e : r ≡ walk s) where
       unfolding soundHead
       head-sound k = rw (sound-walked, not-false t k) (sym (sym e ∙ f))
 
--- a head that passed is that of a plain record
-pub passed-plain : {h : Head} {s : List ℤ} {t : Bool} → (t ≡ true → Plain h s) → not t ≡ false → Plain h s
-passed-plain {t = t} p k = p (not-false t k)
+-- a head that passed is that of a readable record
+pub passed-readable : {h : Head} {s : List ℤ} {t : Bool} → (t ≡ true → Readable h s) → not t ≡ false → Readable h s
+passed-readable {t = t} p k = p (not-false t k)
 
-pub ruleset heads = (head-broken, head-read, head-unsound, head-sound, passed-plain)
+pub ruleset heads = (head-broken, head-read, head-unsound, head-sound, passed-readable)
 
 -- ---- what a head says: `sound`
 
--- one: the record is plain
-pub plain-head : {s : List ℤ} {r : Walk} {h : Head} → PlainHead r s → r ≡ To h → Plain h s
-plain-head p f = rw f at p
+-- one: the record is readable
+pub readable-head : {s : List ℤ} {r : Walk} {h : Head} → ReadableHead r s → r ≡ To h → Readable h s
+readable-head p f = rw f at p
 
 module _ (s : List ℤ) {r : Walk} (e : r ≡ soundHead s) where
   -- none: the record is not sound
@@ -83,24 +83,24 @@ module _ (s : List ℤ) {r : Walk} (e : r ≡ soundHead s) where
       by false q = q
 
   -- one: it is sound
-  pub sound-record : {h : Head} → PlainHead r s → r ≡ To h → SoundRecord h s
+  pub sound-record : {h : Head} → ReadableHead r s → r ≡ To h → SoundRecord h s
   unfolding soundHead
   sound-record {h} p f = by (sound s) refl
     where
       by : (t : Bool) → sound s ≡ t → SoundRecord h s
-      by true q = record { walked = rw q at (sym e ∙ f); judged = q; plain = plain-head p f }
+      by true q = record { walked = rw q at (sym e ∙ f); judged = q; readable = readable-head p f }
       by false q = absurd (let z : _≡_ {A = ℕ} 0 1 = cc (rw q at (sym e ∙ f)) in omega arith)
 
--- a sound record is plain by any head that is read
-pub plain-record : {h : Head} {s : List ℤ} → SoundRecord h s → PlainRecord s
-plain-record r k q = rw (one-head (sym q ∙ r .walked)) (r .plain)
+-- a sound record is readable by any head that is read
+pub readable-record : {h : Head} {s : List ℤ} → SoundRecord h s → ReadableRecord s
+readable-record r k q = rw (one-head (sym q ∙ r .walked)) (r .readable)
 
 -- ---- a sound record
 
 module _ {h : Head} {s : List ℤ} (r : SoundRecord h s) where
   -- where its sections lie
   pub lies : Bounds h s
-  lies = bounds (r .plain)
+  lies = bounds (r .readable)
 
   -- none of its numbers is negative
   pub numbers-natural : all nonNeg (take (h .inputs .next) s) ≡ true
@@ -114,14 +114,14 @@ module _ {h : Head} {s : List ℤ} (r : SoundRecord h s) where
   -- and the one that its slice shows
   pub layout-shown : layoutIn s ≡ seen h s
   unfolding layoutIn
-  layout-shown = rw (r .walked) (layout-seen (r .plain))
+  layout-shown = rw (r .walked) (layout-seen (r .readable))
 
 -- ---- its order: `rows_ordered` and `ordered`
 
 module _ {h : Head} {s : List ℤ} (r : SoundRecord h s) where
   -- the rows are rows of the slice
   pub sound-rows : HasRows (h .rows .first) (h .width) (h .rows .count) s
-  sound-rows = has-rows-there (r .plain)
+  sound-rows = has-rows-there (r .readable)
 
   -- their order is that of the record
   pub rows-order : {u : Bool} → u ≡ increasing (rowsAt (h .rows .first) (h .width) (h .rows .count) s) → u ≡ ordered s

@@ -1,4 +1,4 @@
--- A plain record is sound where the tests that are put to its slice hold. Assumes nothing.
+-- A readable record is sound where the tests that are put to its slice hold. Assumes nothing.
 use mathlib.Core.Path.{_≡_, sym, _∙_}
 use mathlib.Core.Bool.{Bool, true, false, not, _&&_, and-assoc, and-true}
 use mathlib.Core.List.{List}
@@ -13,12 +13,12 @@ use Rattle.rules.specs.Layout.{withinProduct, wellFormed, withinSizes}
 use Rattle.rules.specs.Record.{layoutBy}
 use Rattle.cells.specs.View.{view}
 use Rattle.tables.specs.Rows.{rowsAt}
-use Rattle.records.specs.Judging.{Plain, kindFits, axesFit, rowsFit, smallDeps}
+use Rattle.records.specs.Judging.{Readable, kindFits, axesFit, rowsFit, smallDeps}
 use Rattle.records.proofs.InTurn.{first-fails, first-holds}
 use Rattle.records.proofs.Layouts.{layout-seen, bounds}
 use Rattle.records.proofs.Conjuncts.{dense-within, rank-within, all-dense, diagonal-seen, no-rows, rows-seen, deps-seen, deps-small, few-seen}
 
-module _ {h : Head} {s : List ℤ} (p : Plain h s) where
+module _ {h : Head} {s : List ℤ} (p : Readable h s) where
   -- the dependencies on states lie in the slice
   states-in : h .states .first + h .states .count * (h .rank + 1) ≤ length s
   states-in = omega (arith, bounds p)
@@ -64,7 +64,7 @@ module _ {h : Head} {s : List ℤ} (p : Plain h s) where
 
 -- ---- one test after the other: `well_formed`
 
-module _ {h : Head} {s : List ℤ} (p : Plain h s) {t₁ : Bool} (e₁ : t₁ ≡ kindFits (h .rows .count) s) where
+module _ {h : Head} {s : List ℤ} (p : Readable h s) {t₁ : Bool} (e₁ : t₁ ≡ kindFits (h .rows .count) s) where
   -- the kind does not fit
   pub kind-wrong : not t₁ ≡ true → false ≡ wellFormed (layoutBy h s)
   kind-wrong f = first-fails _ e₁ f ∙ sym (formed p)
@@ -97,7 +97,7 @@ pub ruleset forms = (kind-wrong, rows-wrong, axes-wrong, states-wrong, well-form
 
 -- ---- one test after the other: `within_sizes`
 
-module _ {h : Head} {s : List ℤ} (p : Plain h s) {t₁ : Bool} (e₁ : t₁ ≡ withinProduct (part 3 (h .rank) (view s))) where
+module _ {h : Head} {s : List ℤ} (p : Readable h s) {t₁ : Bool} (e₁ : t₁ ≡ withinProduct (part 3 (h .rank) (view s))) where
   -- the product of the extents is too large
   pub shape-too-large : not t₁ ≡ true → false ≡ withinSizes (layoutBy h s)
   shape-too-large f = first-fails _ e₁ f ∙ sym (sized p)

@@ -24,14 +24,14 @@ fewEntries h =
     leb (h .rank) rankLimit && leb (h .rows .count) entryLimit && leb (h .states .count) entryLimit && leb (h .inputs .count) entryLimit
 
 -- a walked record of few entries, whose numbers are natural and small
-pub record Plain (h : Head) (s : List ℤ) : Type 0 where
+pub record Readable (h : Head) (s : List ℤ) : Type 0 where
   pub head : HeadOf h s
   pub few : fewEntries h ≡ true
   pub low : Low (take (h .inputs .next) (view s))
 
--- a record that can be walked is plain
-abbrev pub PlainRecord : List ℤ → Type 0
-PlainRecord s = (h : Head) → walk s ≡ To h → Plain h s
+-- a record that can be walked is readable
+abbrev pub ReadableRecord : List ℤ → Type 0
+ReadableRecord s = (h : Head) → walk s ≡ To h → Readable h s
 
 -- the kind is one of three, and sparse where there are rows
 unfoldable pub kindFits : ℕ → List ℤ → Bool
@@ -47,7 +47,7 @@ abbrev pub below : ℕ → List ℤ → List ℕ → Bool
 below w s r = allBelow r (part 3 w (view s))
 
 -- so are those of n rows at a
-unfoldable pub rowsBelow : ℕ → ℕ → ℕ → List ℤ → Bool
+abbrev pub rowsBelow : ℕ → ℕ → ℕ → List ℤ → Bool
 rowsBelow a w n s = all (below w s) (rowsAt a w n s)
 
 -- a component is small, and all of a dependency's are, before its number

@@ -8,19 +8,19 @@ use Rattle.rules.specs.declared.Walk.{Walk}
 use Rattle.rules.specs.declared.Walk.the-variants.{To, Broken}
 use Rattle.rules.specs.Lists.{if}
 use Rattle.rules.specs.Record.{walk, sound}
-use Rattle.records.specs.Judging.{Plain}
+use Rattle.records.specs.Judging.{Readable}
 
 -- a record that was walked and judged sound
 pub record SoundRecord (h : Head) (s : List ℤ) : Type 0 where
   pub walked : walk s ≡ To h
   pub judged : sound s ≡ true
-  pub plain : Plain h s
+  pub readable : Readable h s
 
 -- the head of the record at the front of a slice, if it is sound
 unfoldable pub soundHead : List ℤ → Walk
 soundHead s = if (sound s) (walk s) Broken
 
--- a head that is answered is that of a plain record
-abbrev pub PlainHead : Walk → List ℤ → Type 0
-PlainHead (To h) s = Plain h s
-PlainHead Broken s = Unit
+-- a head that is answered is that of a readable record
+abbrev pub ReadableHead : Walk → List ℤ → Type 0
+ReadableHead (To h) s = Readable h s
+ReadableHead Broken s = Unit

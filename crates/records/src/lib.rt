@@ -5,9 +5,9 @@ ghost use mathlib.Core.Bool.{true};
 ghost use Prim.Native.Nat.{_+_, _*_, _^_, _<_, _≤_};
 ghost use lib.ListN.{length, take};
 ghost use lib.Signed.{nonNeg};
-ghost use Rattle.rules.specs.Lists.{all, allBelow};
+ghost use Rattle.rules.specs.Lists.{all};
 ghost use Rattle.rules.specs.Buffers.{part};
-ghost use Rattle.rules.specs.Layout.{alike, withinProduct, wellFormed, withinSizes};
+ghost use Rattle.rules.specs.Layout.{alike, wellFormed, withinSizes};
 ghost use Rattle.rules.specs.Record.{sectionAt, walk, layoutBy, soundFrom, sound, ordered, rowPart, rowStart, row, rowPlace};
 ghost use Rattle.rules.specs.declared.Walk.the-variants.{To};
 ghost use Rattle.rules.specs.Arguments.{overRecord};
@@ -16,8 +16,8 @@ ghost use Rattle.tables.specs.Rows.{HasRows};
 ghost use Rattle.records.specs.Slices.{BeginsAt};
 ghost use Rattle.records.specs.Sections.{SectionIn};
 ghost use Rattle.records.specs.Heads.{HeadOf};
-ghost use Rattle.records.specs.Judging.{Plain, PlainRecord, fewEntries, kindFits, axesFit, rowsFit, rowsBelow, small, smallDeps};
-ghost use Rattle.records.specs.Sound.{SoundRecord, soundHead, PlainHead};
+ghost use Rattle.records.specs.Judging.{Readable, ReadableRecord, fewEntries, kindFits, axesFit, rowsFit, small, smallDeps};
+ghost use Rattle.records.specs.Sound.{SoundRecord, soundHead, ReadableHead};
 use cells::Sign;
 use rules::Entries;
 use rules::Head;
@@ -108,25 +108,6 @@ pub fn all_natural(s: &[i32], n: usize) -> bool
     true
 }
 
-// Whether the product of those of the n extents from a on that are not zero is at most 65,536.
-pub fn within_product(s: &[i32], a: usize, n: usize) -> bool
-    requires { ⌜ a + n ≤ length (now s) ⌝ }
-    ensures { λ r. ⌜ r ≡ withinProduct (part a n (view (now (s .entry)))) ⌝ }
-{
-    let mut product: usize = 1;
-    for k in 0..n {
-        let extent = cells::get(s, a + k);
-        if extent == 0 {
-            continue;
-        }
-        product *= extent;
-        if 65536 < product {
-            return false;
-        }
-    }
-    true
-}
-
 // Whether the n numbers from a on are all the same.
 pub fn alike(s: &[i32], a: usize, n: usize) -> bool
     requires { ⌜ a + n ≤ length (now s) ⌝ }
@@ -147,34 +128,6 @@ fn small_numbers(s: &[i32], a: usize, n: usize) -> bool
 {
     for k in 0..n {
         if 65535 < cells::get(s, a + k) {
-            return false;
-        }
-    }
-    true
-}
-
-// Whether each of the w components from a on is below the extent of its axis.
-fn row_below(s: &[i32], a: usize, w: usize) -> bool
-    requires { ⌜ (a + w ≤ length (now s)) × (3 + w ≤ length (now s)) ⌝ }
-    ensures { λ r. ⌜ r ≡ allBelow (part a w (view (now (s .entry)))) (part 3 w (view (now (s .entry)))) ⌝ }
-{
-    for k in 0..w {
-        let component = cells::get(s, a + k);
-        let extent = cells::get(s, 3 + k);
-        if extent <= component {
-            return false;
-        }
-    }
-    true
-}
-
-// Whether the components of the n rows from a on are below the extents.
-fn rows_below(s: &[i32], a: usize, n: usize, w: usize) -> bool
-    requires { ⌜ (a + n * w ≤ length (now s)) × (3 + w ≤ length (now s)) ⌝ }
-    ensures { λ r. ⌜ r ≡ rowsBelow a w n (now (s .entry)) ⌝ }
-{
-    for i in 0..n {
-        if !row_below(s, a + i * w, w) {
             return false;
         }
     }
@@ -255,12 +208,12 @@ fn rows_fit(s: &[i32], rows: Entries, width: usize) -> bool
     if !tables::all_differ(s, rows.first, rows.count, width) {
         return false;
     }
-    rows_below(s, rows.first, rows.count, width)
+    axes::rows_below(s, rows.first, rows.count, s, 3, width)
 }
 
-// Whether a plain record obeys the rules of soundness other than size.
+// Whether a readable record obeys the rules of soundness other than size.
 fn well_formed(s: &[i32], h: Head) -> bool
-    requires { ⌜ Plain h (now s) ⌝ }
+    requires { ⌜ Readable h (now s) ⌝ }
     ensures { λ r. ⌜ r ≡ wellFormed (layoutBy h (now (s .entry))) ⌝ }
 {
     let rows = h.rows;
@@ -281,14 +234,14 @@ fn well_formed(s: &[i32], h: Head) -> bool
     tables::is_increasing(s, inputs.first, inputs.count, h.rank + 1)
 }
 
-// Whether a plain record keeps the limits of size.
+// Whether a readable record keeps the limits of size.
 fn within_sizes(s: &[i32], h: Head) -> bool
-    requires { ⌜ Plain h (now s) ⌝ }
+    requires { ⌜ Readable h (now s) ⌝ }
     ensures { λ r. ⌜ r ≡ withinSizes (layoutBy h (now (s .entry))) ⌝ }
 {
     let states = h.states;
     let inputs = h.inputs;
-    if !within_product(s, 3, h.rank) {
+    if !axes::within_product(s, 3, h.rank) {
         return false;
     }
     if !small_deps(s, states.first, states.count, h.rank) {
@@ -297,11 +250,11 @@ fn within_sizes(s: &[i32], h: Head) -> bool
     small_deps(s, inputs.first, inputs.count, h.rank)
 }
 
-// Whether a walked record is sound; if so, it is plain. The counts are tested first, so that no later test takes long.
+// Whether a walked record is sound; if so, it is readable. The counts are tested first, so that no later test takes long.
 fn sound_by(s: &[i32], h: Head) -> bool
     requires { ⌜ HeadOf h (now s) ⌝ }
     ensures is { λ r. ⌜ r ≡ soundFrom (To h) (now (s .entry)) ⌝ }
-    ensures plain { λ r. ⌜ (r ≡ true → Plain h (now (s .entry))) ⌝ }
+    ensures readable { λ r. ⌜ (r ≡ true → Readable h (now (s .entry))) ⌝ }
 {
     if !few_entries(h) {
         return false;
@@ -316,10 +269,10 @@ fn sound_by(s: &[i32], h: Head) -> bool
     within_sizes(s, h)
 }
 
-// The head of the record at the front of a slice, if the record is sound; it is plain then.
+// The head of the record at the front of a slice, if the record is sound; it is readable then.
 pub fn sound_head(s: &[i32]) -> Walk
     ensures is { λ r. ⌜ r ≡ soundHead (now (s .entry)) ⌝ }
-    ensures plain { λ r. ⌜ PlainHead r (now (s .entry)) ⌝ }
+    ensures readable { λ r. ⌜ ReadableHead r (now (s .entry)) ⌝ }
 {
     let Walk::To(h) = walk_record(s) else {
         return Walk::Broken;
@@ -330,10 +283,10 @@ pub fn sound_head(s: &[i32]) -> Walk
     Walk::To(h)
 }
 
-// Whether the record at the front of a slice is sound; if so, it is plain.
+// Whether the record at the front of a slice is sound; if so, it is readable.
 pub fn sound(s: &[i32]) -> bool
     ensures is { λ r. ⌜ r ≡ sound (now (s .entry)) ⌝ }
-    ensures plain { λ r. ⌜ (r ≡ true → PlainRecord (now (s .entry))) ⌝ }
+    ensures readable { λ r. ⌜ (r ≡ true → ReadableRecord (now (s .entry))) ⌝ }
 {
     match sound_head(s) {
         Walk::To(_) => true,
@@ -360,9 +313,9 @@ pub fn ordered(s: &[i32]) -> bool
     }
 }
 
-// Row i of a plain record, as the part of the slice that it is; an empty part if there is none.
+// Row i of a readable record, as the part of the slice that it is; an empty part if there is none.
 fn row_of(s: &[i32], h: Head, i: usize) -> &[i32]
-    requires { ⌜ Plain h (now s) ⌝ }
+    requires { ⌜ Readable h (now s) ⌝ }
     ensures is { λ r. ⌜ now r ≡ rowPart i (To h) (now (s .entry)) ⌝ }
     ensures place { λ r. ⌜ BeginsAt (rowStart i (To h)) (s .entry) r ⌝ }
 {

@@ -64,5 +64,5 @@ pub fn cmp_index(a: &[i32], b: &[i32]) -> Comparison
     if !shapes::comparable(a, b) {
         return Comparison::Refused(Refusal::WrongArgument);
     }
-    Comparison::By(shapes::cmp(a, b))
+    Comparison::By(tables::cmp_rows(a, 0, b, 0, a.len()))
 }

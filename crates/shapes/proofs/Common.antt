@@ -2,7 +2,7 @@
 use mathlib.Core.Path.{_≡_, refl, sym, ap, _∙_}
 use mathlib.Core.Bool.{Bool, true, false, _&&_, _||_}
 use mathlib.Core.List.{List, [], _∷_, map}
-use Prim.Native.Nat.{ℕ, zero, suc, _-_, _<_, _≤_}
+use Prim.Native.Nat.{ℕ, zero, suc, _-_, _^_, _<_, _≤_}
 use native.Mathlib.Omega.{arith}
 use borrow.Author.Tests.{lt-ltb, le-ltb, ltb-true, ltb-false}
 use lib.Dec.{ltb, eqb}
@@ -10,12 +10,16 @@ use lib.IntN.{ℤ}
 use lib.ListN.{length, getD, take, drop, length-map}
 use Rattle.rules.specs.Limits.{rankLimit}
 use Rattle.rules.specs.Lists.{all, larger, largest, below, fitTo}
-use Rattle.rules.specs.Record.{shapeIn, behindShape}
+use Rattle.rules.specs.Record.{shapeIn, behindShape, goodShape}
 use Rattle.rules.specs.Shapes.{extents, commonExtent, axisAgrees, shapesAgree, commonShape}
 use Rattle.rules.proofs.Ranges.{from-length}
 use Rattle.records.specs.EndToEnd.{Behind}
 use Rattle.records.proofs.EndToEnd.{to-end, next-left, none-left}
-use Rattle.shapes.specs.Judged.{shapesFrom, shapesOf}
+use Rattle.rules.proofs.Same.{both-true}
+use Rattle.cells.specs.View.{Low}
+use Rattle.shapes.specs.Judged.{AllJudged, shapesFrom, shapesOf}
+use Rattle.shapes.proofs.Judging.{extent-small}
+use Rattle.shapes.proofs.Fitting.{fit-low}
 
 -- ---- the larger of two numbers
 
@@ -111,3 +115,27 @@ common-is axes n s e f = f ∙ rw e
 pub length-common : (shapes : List (List ℕ)) → length (commonShape shapes) ≡ largest (map length shapes)
 unfolding commonShape
 length-common shapes = length-map (below (largest (map length shapes))) (λ axis. commonExtent axis shapes) ∙ from-length 0 (largest (map length shapes))
+
+-- its extents are as small as those of the shapes
+largest-small : (n : ℕ) (l : List ℕ) → ((k : ℕ) → getD l k 0 ≤ n) → largest l ≤ n
+unfolding largest
+largest-small n [] f = omega arith
+largest-small n (x ∷ l) f = larger-is x (largest l) .least n (f 0) (largest-small n l (λ k. f (suc k)))
+
+extents-small : (axis : ℕ) (l : List (List ℤ)) → all goodShape l ≡ true → (k : ℕ) → getD (extents axis (map shapeIn l)) k 0 ≤ 65536
+unfolding all extents
+extents-small axis [] e k = omega arith
+extents-small axis (s ∷ l) e zero = extent-small s (both-true (goodShape s) (all goodShape l) e .0) axis
+extents-small axis (s ∷ l) e (suc k) = extents-small axis l (both-true (goodShape s) (all goodShape l) e .1) k
+
+map-low : (f : ℕ → ℕ) → ((a : ℕ) → f a < 2 ^ 31) → (l : List ℕ) → Low (map f l)
+map-low f h [] k = omega arith
+map-low f h (a ∷ l) zero = h a
+map-low f h (a ∷ l) (suc k) = map-low f h l k
+
+pub common-low : (n : ℕ) (s : List ℤ) {four : List ℕ} → AllJudged n s → four ≡ fitTo rankLimit 0 (commonShape (shapesOf n s)) → Low four
+unfolding commonShape
+common-low n s j f =
+    let one : (axis : ℕ) → commonExtent axis (shapesOf n s) < 2 ^ 31
+    = λ axis. omega (arith, largest-small 65536 (extents axis (shapesOf n s)) (extents-small axis (shapesFrom n s) (j .good))) in
+    rw f (fit-low rankLimit (commonShape (shapesOf n s)) (map-low (λ axis. commonExtent axis (shapesOf n s)) one (below (largest (map length (shapesOf n s))))))

@@ -22,13 +22,17 @@ use Rattle.rules.specs.Buffers.{part}
 use Rattle.rules.specs.Layout.{withinProduct, nonzeroProduct}
 use Rattle.rules.specs.Record.{natural, naturals, entriesFrom, sectionAt, goodExtents, goodShape, shapeIn, behindShape}
 use Rattle.rules.proofs.Extents.{extent-nonzero}
+use Rattle.rules.proofs.RowsRead.{pos-naturals}
 use Rattle.rules.proofs.Same.{both-true, true-not-false}
 use Rattle.cells.specs.View.{view, Low}
+use Rattle.cells.proofs.View.{view-part, view-pos}
+use Rattle.tables.specs.Rows.{rowAt}
+use Rattle.axes.specs.Extents.{Extents}
 use Rattle.records.specs.Sections.{Laid, SectionIn}
 use Rattle.records.specs.EndToEnd.{Behind}
 use Rattle.records.proofs.EndToEnd.{to-end}
 use Rattle.records.proofs.InTurn.{first-fails, first-holds}
-use Rattle.records.proofs.Low.{naturals-part}
+use Rattle.records.proofs.Naturals.{naturals-part}
 use Rattle.records.proofs.Sections.{other-default}
 use Rattle.shapes.specs.Judged.{Judged}
 use Rattle.shapes.proofs.Reading.{length-naturals}
@@ -42,6 +46,7 @@ counted s = natural (getD s 0 (pos 0))
 -- a good shape's extents lie in the slice, and their product is within the limit
 record Good (s : List ℤ) : Type 0 where
   room : 1 + counted s ≤ length s
+  natural : all nonNeg (part 1 (counted s) s) ≡ true
   within : withinProduct (shapeIn s) ≡ true
 
 good : (s : List ℤ) → goodShape s ≡ true → Good s
@@ -53,8 +58,14 @@ good (pos n ∷ l) e = by (leb (1 + n * 1) (suc (length l))) refl e
     by : (t : Bool) → leb (1 + n * 1) (suc (length l)) ≡ t → goodExtents (if t (Whole (record { count = n; first = 1; next = 1 + n * 1 })) Cut) (pos n ∷ l) ≡ true → Good (pos n ∷ l)
     by true h f =
         let room : 1 + n * 1 ≤ suc (length l) = leb-true (1 + n * 1) (suc (length l)) h in
-        record { room = rw mul-one at room; within = both-true (all nonNeg (part 1 n (pos n ∷ l))) (withinProduct (shapeIn (pos n ∷ l))) f .1 }
+        let both = both-true (all nonNeg (part 1 n (pos n ∷ l))) (withinProduct (shapeIn (pos n ∷ l))) f in
+        record { room = rw mul-one at room; natural = both .0; within = both .1 }
     by false h f = absurd (true-not-false f refl)
+
+-- each of its extents is within the limit
+pub extent-small : (s : List ℤ) → goodShape s ≡ true → (a : ℕ) → getD (shapeIn s) a 1 ≤ 65536
+unfolding withinProduct
+extent-small s e a = le-trans (extent-nonzero (shapeIn s) a 1 (omega arith)) (leb-true (nonzeroProduct (shapeIn s)) productLimit (good s e .within))
 
 module _ (s : List ℤ) (j : Judged s) where
   pub rank-counted : length (shapeIn s) ≡ counted s
@@ -69,10 +80,15 @@ module _ (s : List ℤ) (j : Judged s) where
   pub rank-small : {r : ℕ} → r ≡ natural (getD s 0 (pos 0)) → r ≤ 4
   rank-small e = rw e (ltb-false 4 (counted s) (j .small))
 
-  -- each extent is within the limit
-  extent-low : (a : ℕ) → getD (shapeIn s) a 1 ≤ 65536
-  unfolding withinProduct
-  extent-low a = le-trans (extent-nonzero (shapeIn s) a 1 (omega arith)) (leb-true (nonzeroProduct (shapeIn s)) productLimit (good s (j .good) .within))
+  -- the extents as they stand in the slice are the shape
+  pub shape-row : {r : ℕ} → r ≡ length (shapeIn s) → rowAt 1 r s ≡ shapeIn s
+  unfolding shapeIn
+  shape-row e =
+      let l : List ℤ = part 1 (counted s) s in
+      rw (e, rank-counted, ← view-part 1 (counted s) s) (ap view (sym (pos-naturals l (good s (j .good) .natural))) ∙ view-pos (naturals l))
+
+  pub shape-extents : {r : ℕ} → r ≡ length (shapeIn s) → Extents 1 r s
+  shape-extents e = let g = good s (j .good) in record { room = omega (arith, rank-counted); within = rw (shape-row e) (g .within) }
 
   -- an axis that is there has its extent
   pub extent-there : {a n r : ℕ} → r ≡ length (shapeIn s) → a < r → n ≡ natural (getD s (a + 1) (pos 0)) → n ≡ getD (shapeIn s) a 1
@@ -90,7 +106,7 @@ module _ (s : List ℤ) (j : Judged s) where
       f ∙ sym (List·getD-map natural part a (pos 1) ∙ ap natural there)
 
   pub extent-there-low : {a n r : ℕ} → r ≡ length (shapeIn s) → a < r → n ≡ natural (getD s (a + 1) (pos 0)) → n ≤ 65536
-  extent-there-low {a} e h f = rw (extent-there e h f) (extent-low a)
+  extent-there-low {a} e h f = rw (extent-there e h f) (extent-small s (j .good) a)
 
   -- one that is missing counts 1
   pub extent-missing : {a r : ℕ} → r ≡ length (shapeIn s) → r ≤ a → 1 ≡ getD (shapeIn s) a 1

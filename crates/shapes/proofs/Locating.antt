@@ -1,67 +1,34 @@
 -- Indices and their numbers in row-major order. Assumes nothing.
-use mathlib.Core.Path.{_≡_, refl, sym, ap, _∙_}
+use mathlib.Core.Path.{_≡_, refl, sym, _∙_}
 use mathlib.Core.Bool.{true, false}
-use mathlib.Core.List.{List, [], _∷_, _++_, append-nil}
-use Prim.Native.Nat.{ℕ, zero, suc, _+_, _-_, _*_, _/_, _%_, _^_, _<_, _≤_}
-use native.Mathlib.Nat.{zero-mul, zero-add, add-zero, add-mul, add-assoc, mul-one, mul-assoc, mul-comm, pow-suc, suc-mul, div-one, div-div-eq-div-mul, mul-le-mul-left, mul-le-mul-right, pow-le-pow-right, lt-of-lt-of-le}
+use mathlib.Core.List.{List, [], _∷_, map}
+use Prim.Native.Nat.{ℕ, zero, suc, _+_, _*_, _^_, _<_, _≤_}
+use native.Mathlib.Nat.{zero-mul, zero-add, add-zero, add-mul, add-assoc, mul-one, mul-assoc, pow-suc, suc-mul, mul-le-mul-left, mul-le-mul-right, pow-le-pow-right, lt-of-lt-of-le}
 use native.Mathlib.Numerals.{add-one}
 use native.Mathlib.Omega.{arith}
-use borrow.Author.Tests.{lt-ltb, le-ltb, leb-true, eqb-true, ne-eqb}
-use lib.Dec.{eqb, leb, ltb, lit<}
+use borrow.Author.Tests.{leb-true, eqb-true}
+use lib.Dec.{eqb, leb, lit<}
 use lib.IntN.{ℤ, pos, negsuc}
-use lib.ListN.{length, getD, drop, set, replicate, length-replicate, drop-of-length-le}
+use lib.ListN.{length, getD, drop, length-map, drop-of-length-le}
 use lib.Seq.{drop-cons}
 use mir.Syntax.{w64}
 use mir.Val.{Fits}
-use Rattle.rules.specs.declared.Ordering.{Ordering}
-use Rattle.rules.specs.declared.Ordering.the-variants.{Less, Equal, Greater}
 use Rattle.rules.specs.Limits.{rankLimit, componentLimit}
 use Rattle.rules.specs.Lists.{all, any, product, fitTo}
-use Rattle.rules.specs.RowsInOrder.{byFirst, cmpRows}
+use Rattle.rules.specs.Buffers.{put, zeros}
 use Rattle.rules.specs.Record.{natural, naturals, shapeIn}
 use Rattle.rules.specs.Arguments.{upTo, goodComponents, goodIndex}
 use Rattle.rules.specs.Positions.{ravelIndex, unravel}
-use Rattle.rules.proofs.Order.{cmp-at, cmp-end}
 use Rattle.rules.proofs.Same.{both-true, true-not-false}
+use Rattle.cells.specs.View.{view}
+use Rattle.cells.proofs.View.{view-put, view-pos, view-zeros}
+use Rattle.tables.specs.Rows.{rowAt}
+use Rattle.axes.specs.Extents.{IndexAsked}
+use Rattle.axes.proofs.Indices.{unravel-length}
 use Rattle.shapes.specs.Judged.{Judged}
 use Rattle.shapes.proofs.Reading.{natural-getD, inside-naturals, past-naturals}
-use Rattle.shapes.proofs.Judging.{rank-counted, rank-small}
-use Rattle.shapes.proofs.Fitting.{fit-set, fit-zeros}
-
--- ---- how two indices compare
-
--- the first k components are the same
-pub record Alike (a b : List ℤ) (order : Ordering) (k : ℕ) : Type 0 where
-  pub upto : k ≤ length a
-  pub long : length a ≡ length b
-  pub equal : order ≡ Equal
-  pub eq : cmpRows (naturals a) (naturals b) ≡ cmpRows (drop k (naturals a)) (drop k (naturals b))
-
-pub cmp-start : {a b : List ℤ} → length a ≡ length b → Alike a b Equal 0
-cmp-start e = record { upto = omega arith; long = e; equal = refl; eq = refl }
-
-module _ {a b : List ℤ} {order : Ordering} {k x y : ℕ} (p : Alike a b order k) (h : k < length a)
-    (ex : x ≡ natural (getD a k (pos 0))) (ey : y ≡ natural (getD b k (pos 0))) where
-  cmp-next : cmpRows (naturals a) (naturals b) ≡ byFirst (ltb x y) (ltb y x) (cmpRows (drop (k + 1) (naturals a)) (drop (k + 1) (naturals b)))
-  cmp-next =
-      p .eq
-      ∙ cmp-at (naturals a) (naturals b) k (inside-naturals a k h) (inside-naturals b k (omega arith))
-      ∙ rw (natural-getD a k, natural-getD b k, ← ex, ← ey)
-
-  pub cmp-turn : y ≤ x → x ≤ y → Alike a b order (k + 1)
-  cmp-turn f g = record { upto = omega arith; long = p .long; equal = p .equal; eq = cmp-next ∙ rw (le-ltb x y, le-ltb y x) }
-
-  pub cmp-less : x < y → Less ≡ cmpRows (naturals a) (naturals b)
-  cmp-less f = sym (cmp-next ∙ rw (lt-ltb x y))
-
-  pub cmp-greater : y < x → Greater ≡ cmpRows (naturals a) (naturals b)
-  cmp-greater f = sym (cmp-next ∙ rw (le-ltb x y (omega arith), lt-ltb y x))
-
-pub cmp-done : {a b : List ℤ} {order : Ordering} {k : ℕ} → Alike a b order k → length a ≤ k → order ≡ cmpRows (naturals a) (naturals b)
-cmp-done {a} {b} {order} {k} p h =
-    p .equal ∙ sym (p .eq ∙ cmp-end (naturals a) (naturals b) k (past-naturals a k h) (past-naturals b k (omega arith)))
-
-pub ruleset cmp-laws = (cmp-start, cmp-turn, cmp-less, cmp-greater, cmp-done)
+use Rattle.shapes.proofs.Judging.{rank-counted, rank-small, shape-row, shape-extents}
+use Rattle.shapes.proofs.Fitting.{four-numbers, fit-length, fit-over}
 
 -- ---- the number of an index
 
@@ -151,69 +118,27 @@ pub ruleset ravel-laws = (ravel-start, ravel-mul-fits, ravel-add-fits, ravel-tur
 
 -- ---- the index of a number
 
--- the components from k on, zeros before them, and what is left of the number for those
-pub record Unraveled (n : ℕ) (shape : List ℕ) (index : List ℕ) (rest k : ℕ) : Type 0 where
-  pub upto : k ≤ length shape
-  pub few : length shape ≤ 4
-  pub left : rest ≡ n / product (drop k shape)
-  pub is : index ≡ fitTo 4 0 (replicate k 0 ++ unravel n (drop k shape))
+module _ (n : ℕ) (shape : List ℤ) (j : Judged shape) (z : any (eqb 0) (shapeIn shape) ≡ false) {rank : ℕ} (e : rank ≡ length (shapeIn shape)) where
+  -- there is room for it among four numbers
+  pub index-room : IndexAsked 1 rank shape 0 (zeros 4)
+  index-room =
+      let seen = shape-row shape j e in
+      let few = rank-small shape j (e ∙ rank-counted shape j) in
+      record { extents = shape-extents shape j e; nonzero = rw seen z; room = omega arith }
 
-pub unravel-start : (n : ℕ) (shape : List ℕ) {k : ℕ} → k ≡ length shape → k ≤ 4 → Unraveled n shape (0 ∷ 0 ∷ 0 ∷ 0 ∷ []) n k
-unfolding product unravel
-unravel-start n shape {k} e h =
-    let l : length shape ≤ k = omega arith in
-    record {
-      upto = omega arith;
-      few = omega arith;
-      left = rw (drop-of-length-le shape l, div-one n);
-      is = rw (drop-of-length-le shape l, append-nil (replicate {A = ℕ} k 0), fit-zeros 4 k);
-    }
+  -- read by value it has zeros behind it
+  index-read : {index : List ℤ} → index ≡ put 0 (map pos (unravel n (rowAt 1 rank shape))) (zeros 4) → view index ≡ fitTo rankLimit 0 (unravel n (shapeIn shape))
+  index-read f =
+      let few = rank-small shape j (e ∙ rank-counted shape j) in
+      let u : List ℕ = unravel n (shapeIn shape) in
+      let long : length u ≤ 4 = rw (unravel-length n (shapeIn shape)) (omega arith) in
+      rw (f, shape-row shape j e, view-put, view-pos, length-map, view-zeros, zero-add) (fit-over 4 u long)
 
--- where no extent is zero, each one is a divisor
-extent-pos : (l : List ℕ) (k : ℕ) → any (eqb 0) l ≡ false → 0 < getD l k 1
-unfolding any
-extent-pos [] k e = omega arith
-extent-pos (zero ∷ l) k e = absurd (true-not-false refl e)
-extent-pos (suc x ∷ l) zero e = omega arith
-extent-pos (suc x ∷ l) (suc k) e = extent-pos l k (rw (ne-eqb 0 (suc x) (λ (z : 0 ≡ suc x). omega arith)) at e)
+  pub index-by-value : {index : List ℤ} {a b c d : ℕ} → index ≡ put 0 (map pos (unravel n (rowAt 1 rank shape))) (zeros 4) →
+      a ≡ getD (view index) 0 0 → b ≡ getD (view index) 1 0 → c ≡ getD (view index) 2 0 → d ≡ getD (view index) 3 0 →
+      a ∷ b ∷ c ∷ d ∷ [] ≡ fitTo rankLimit 0 (unravel n (shapeIn shape))
+  index-by-value {index} f p q r t =
+      let read = index-read f in
+      rw (p, q, r, t, read) (four-numbers (fitTo 4 0 (unravel n (shapeIn shape))) (fit-length 4 (unravel n (shapeIn shape))))
 
-pub extent-divides : (l : List ℕ) (k : ℕ) {e : ℕ} → any (eqb 0) l ≡ false → e ≡ getD l k 1 → 0 < e
-extent-divides l k f g = rw g (extent-pos l k f)
-
-zeros-more : (j : ℕ) (l : List ℕ) → replicate (suc j) 0 ++ l ≡ replicate j 0 ++ 0 ∷ l
-zeros-more zero l = refl
-zeros-more (suc j) l = ap (λ (m : List ℕ). 0 ∷ m) (zeros-more j l)
-
--- one axis before
-unravel-axis : (n : ℕ) (shape index : List ℕ) (rest j e : ℕ) → Unraveled n shape index rest (suc j) → e ≡ getD shape j 1 →
-    Unraveled n shape (set index j (rest % e)) (rest / e) j
-unfolding product unravel
-unravel-axis n shape index rest j e p f =
-    let inside : j < length shape = omega (arith, p .upto) in
-    let after : ℕ = product (drop (suc j) shape) in
-    let one : drop j shape ≡ e ∷ drop (suc j) shape = rw f (drop-cons shape j 1 inside) in
-    record {
-      upto = omega arith;
-      few = p .few;
-      left = rw (one, p .left, mul-comm e after) (div-div-eq-div-mul n after e);
-      is = rw (one, p .is, zeros-more j (unravel n (drop (suc j) shape)), p .left)
-          (fit-set 4 0 j 0 (n / after % e) (replicate j 0) (unravel n (drop (suc j) shape)) (length-replicate j 0) (omega (arith, p .few)));
-    }
-
-pub unravel-turn : (n : ℕ) (shape index : List ℕ) (rest k e : ℕ) → Unraveled n shape index rest k → 0 < k → e ≡ getD shape (k - 1) 1 →
-    Unraveled n shape (set index (k - 1) (rest % e)) (rest / e) (k - 1)
-unravel-turn n shape index rest zero e p h f = absurd (omega arith)
-unravel-turn n shape index rest (suc j) e p h f =
-    let g : suc j - 1 ≡ j = omega arith in
-    rw g (unravel-axis n shape index rest j e p (rw g at f))
-
-pub unravel-done : {n : ℕ} {shape index : List ℕ} {rest k : ℕ} → Unraveled n shape index rest k → k ≤ 0 → index ≡ fitTo rankLimit 0 (unravel n shape)
-unravel-done {k = k} p h = let z : k ≡ 0 = omega arith in rw z at (p .is)
-
-pub ruleset unravel-laws = (unravel-start, unravel-turn, unravel-done, extent-divides)
-
--- an index has as many components as its shape has axes
-pub length-unravel : (n : ℕ) (shape : List ℕ) → length (unravel n shape) ≡ length shape
-unfolding unravel
-length-unravel n [] = refl
-length-unravel n (e ∷ shape) = ap suc (length-unravel n shape)
+pub ruleset unravel-laws = (index-room, index-by-value)

@@ -12,7 +12,7 @@ use lib.ListN.{length, getD, drop, drop-of-length-le}
 use lib.Seq.{drop-cons}
 use Rattle.rules.specs.Lists.{all, any, below}
 use Rattle.rules.proofs.Ranges.{from-length, from-at}
-use Rattle.records.proofs.Passing.{Passed, none-passed, one-more, one-fails, all-passed}
+use Rattle.tables.proofs.Passing.{Passed, none-passed, one-more, one-fails, all-passed}
 
 -- ---- the numbers below n
 

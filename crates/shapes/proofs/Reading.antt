@@ -1,24 +1,31 @@
 -- What the sign of a number says of what is judged by the number. Assumes nothing.
 use mathlib.Core.Path.{_≡_, refl, sym, ap, _∙_}
-use mathlib.Core.Bool.{Bool, true, false, not}
-use mathlib.Core.List.{List}
-use Prim.Native.Nat.{ℕ, _<_, _≤_}
+use mathlib.Core.Bool.{Bool, true, false, not, _&&_}
+use mathlib.Core.List.{List, [], _∷_}
+use Prim.Native.Nat.{ℕ, zero, suc, _<_, _≤_}
 use native.Mathlib.Omega.{arith}
 use borrow.Author.Tests.{lt-ltb, le-ltb, le-leb, lt-leb, leb-true, leb-false, eq-eqb, ne-eqb, eqb-true, not-true, not-false}
 use lib.Dec.{ltb, leb, eqb}
 use lib.IntN.{ℤ, pos, negsuc}
 use lib.ListN.{length, getD, List·getD-eq-default, List·getD-map, length-map}
+use lib.Seq.{take-all}
 use lib.Signed.{nonNeg}
 use mir.Syntax.{w32}
 use mir.Val.{SFits, toZ, ofZ}
 use mir.ValLaws.{toZ-ofZ}
-use Rattle.rules.specs.Limits.{listLimit}
+use Rattle.rules.specs.Limits.{rankLimit, listLimit, componentLimit}
+use Rattle.rules.specs.Lists.{all}
+use Rattle.rules.specs.Buffers.{part}
+use Rattle.rules.specs.RowsInOrder.{cmpRows}
 use Rattle.rules.specs.Record.{natural, naturals, listCount}
 use Rattle.rules.specs.Arguments.{upTo, overCount, goodComponents, goodIndex}
-use Rattle.rules.proofs.Same.{true-not-false}
+use Rattle.rules.proofs.Same.{both-true, true-not-false}
 use Rattle.cells.specs.declared.Sign.{Sign}
 use Rattle.cells.specs.declared.Sign.the-variants.{Natural, Negative}
-use Rattle.cells.specs.View.{signOf}
+use Rattle.cells.specs.View.{view, Low, signOf}
+use Rattle.cells.proofs.View.{view-length}
+use Rattle.tables.specs.Rows.{rowAt, HasRow}
+use Rattle.records.proofs.Naturals.{naturals-view}
 use Rattle.records.proofs.Numbers.{natural-passes, negative-fails}
 use Rattle.records.proofs.Sections as sections
 use Rattle.shapes.specs.Judged.{comparableIndices}
@@ -134,15 +141,49 @@ module _ (a b : List ℤ) where
       pub pair-second : {u : Bool} → t ≡ true → u ≡ goodComponents b → u ≡ comparableIndices a b
       pair-second f g = rw (eq-eqb (length a) (length b) l, le-leb (length a) 4 h, ← e, f) g
 
-  -- they are of one length
-  pub comparable-lengths : comparableIndices a b ≡ true → length a ≡ length b
-  comparable-lengths e = by (eqb (length a) (length b)) refl
-    where
-      by : (t : Bool) → eqb (length a) (length b) ≡ t → length a ≡ length b
-      by true f = eqb-true (length a) (length b) f
-      by false f = absurd (true-not-false e (rw f))
-
 pub ruleset indices = (index-length, index-components, pair-lengths, pair-long, pair-first, pair-second, not-true, not-false)
+
+-- components are not negative
+components-low : (s : List ℤ) → goodComponents s ≡ true → Low (view s)
+unfolding goodComponents all upTo view
+components-low [] e k = omega arith
+components-low (pos n ∷ s) e zero = omega (arith, leb-true n componentLimit (both-true (leb n componentLimit) (all (upTo componentLimit) s) e .0))
+components-low (pos n ∷ s) e (suc k) = components-low s (both-true (leb n componentLimit) (all (upTo componentLimit) s) e .1) k
+components-low (negsuc n ∷ s) e k = absurd (true-not-false e refl)
+
+-- so an index is a row
+module _ (s : List ℤ) (g : goodComponents s ≡ true) where
+  index-whole : rowAt 0 (length s) s ≡ view s
+  unfolding part
+  index-whole = take-all (length s) (view s) (rw view-length (omega arith))
+
+  index-row : HasRow 0 (length s) s
+  index-row = record { room = omega arith; low = rw index-whole (components-low s g) }
+
+  index-seen : rowAt 0 (length s) s ≡ naturals s
+  index-seen = index-whole ∙ sym (naturals-view s (components-low s g))
+
+-- two indices that can be compared are compared as rows
+module _ (a b : List ℤ) (e : comparableIndices a b ≡ true) where
+  same-length : length a ≡ length b
+  same-length =
+      let three = both-true (eqb (length a) (length b) && leb (length a) rankLimit && goodComponents a) (goodComponents b) e .0 in
+      let two = both-true (eqb (length a) (length b) && leb (length a) rankLimit) (goodComponents a) three .0 in
+      eqb-true (length a) (length b) (both-true (eqb (length a) (length b)) (leb (length a) rankLimit) two .0)
+
+  good-first : goodComponents a ≡ true
+  good-first =
+      let three = both-true (eqb (length a) (length b) && leb (length a) rankLimit && goodComponents a) (goodComponents b) e .0 in
+      both-true (eqb (length a) (length b) && leb (length a) rankLimit) (goodComponents a) three .1
+
+  good-second : goodComponents b ≡ true
+  good-second = both-true (eqb (length a) (length b) && leb (length a) rankLimit && goodComponents a) (goodComponents b) e .1
+
+  pub compared-rows : HasRow 0 (length a) a × HasRow 0 (length a) b
+  compared-rows = (index-row a good-first, rw same-length (index-row b good-second))
+
+  pub compared-same : cmpRows (rowAt 0 (length a) a) (rowAt 0 (length a) b) ≡ cmpRows (naturals a) (naturals b)
+  compared-same = rw (index-seen a good-first) (ap (cmpRows (naturals a)) (rw same-length (index-seen b good-second)))
 
 -- ---- a list of numbers read as natural ones
 

@@ -8,6 +8,7 @@ ghost use Rattle.rules.specs.Layout.{withinProduct};
 ghost use Rattle.rules.specs.Record.{behindShape, shapeIn, goodShape};
 ghost use Rattle.rules.specs.Arguments.{overShape};
 ghost use Rattle.rules.specs.Shapes.{canBroadcastTo};
+ghost use Rattle.cells.specs.View.{Low};
 ghost use Rattle.records.specs.EndToEnd.{Behind};
 ghost use Rattle.shapes.specs.Judged.{Judged, axisStretches};
 use super::numbers::natural_at;
@@ -22,23 +23,16 @@ pub fn over_shape(s: &[i32]) -> bool
 
 // Whether the product of those of four extents by value that are not zero is at most 65,536.
 pub fn within_product(extents: [usize; 4]) -> bool
+    requires { ⌜ Low extents ⌝ }
     ensures { λ r. ⌜ r ≡ withinProduct extents ⌝ }
 {
-    let mut product: usize = 1;
-    for k in 0..4 {
-        let extent = extents[k];
-        if extent == 0 {
-            continue;
-        }
-        if 65536 < extent {
-            return false;
-        }
-        product *= extent;
-        if 65536 < product {
-            return false;
-        }
-    }
-    true
+    let row = [
+        cells::whole(extents[0]),
+        cells::whole(extents[1]),
+        cells::whole(extents[2]),
+        cells::whole(extents[3]),
+    ];
+    axes::within_product(&row, 0, 4)
 }
 
 // Whether the shape obeys the extent rules.
@@ -50,7 +44,7 @@ pub fn good_shape(s: &[i32]) -> bool
             if !records::all_natural(s, extents.next) {
                 return false;
             }
-            records::within_product(s, 1, extents.count)
+            axes::within_product(s, 1, extents.count)
         }
         Section::Cut => false,
     }

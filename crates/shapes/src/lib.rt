@@ -24,6 +24,5 @@ pub use numbers::list_count;
 pub use numbers::natural_at;
 pub use numbers::over_count;
 pub use numbers::up_to;
-pub use positions::cmp;
 pub use positions::ravel;
 pub use positions::unravel;

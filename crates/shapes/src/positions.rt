@@ -5,7 +5,6 @@ ghost use lib.Dec.{eqb};
 ghost use lib.ListN.{length};
 ghost use Rattle.rules.specs.Limits.{rankLimit};
 ghost use Rattle.rules.specs.Lists.{any, fitTo};
-ghost use Rattle.rules.specs.RowsInOrder.{cmpRows};
 ghost use Rattle.rules.specs.Record.{naturals, shapeIn};
 ghost use Rattle.rules.specs.Arguments.{goodIndex};
 ghost use Rattle.rules.specs.Positions.{ravelIndex, unravel};
@@ -13,7 +12,6 @@ ghost use Rattle.shapes.specs.Judged.{Judged};
 use super::extents::extent;
 use super::extents::rank;
 use super::numbers::natural_at;
-use rules::Ordering;
 
 // The number of an index, which may lie outside its shape.
 pub fn ravel(index: &[i32], shape: &[i32]) -> usize
@@ -30,43 +28,18 @@ pub fn ravel(index: &[i32], shape: &[i32]) -> usize
     number
 }
 
-// The index of a number by value, zeros behind it: the last axis first.
+// The index of a number by value, zeros behind it.
 pub fn unravel(n: usize, shape: &[i32]) -> [usize; 4]
     requires { ⌜ Judged (now shape) ⌝ }
     requires { ⌜ any (eqb 0) (shapeIn (now shape)) ≡ false ⌝ }
     ensures { λ r. ⌜ r ≡ fitTo rankLimit 0 (unravel n (shapeIn (now (shape .entry)))) ⌝ }
 {
-    let mut index = [0usize; 4];
-    let mut rest = n;
-    let mut k = rank(shape);
-    while 0 < k {
-        k -= 1;
-        let e = extent(shape, k);
-        index[k] = rest % e;
-        rest /= e;
-    }
-    index
-}
-
-// How two indices of one length compare: by the first component that differs.
-pub fn cmp(a: &[i32], b: &[i32]) -> Ordering
-    requires { ⌜ length (now a) ≡ length (now b) ⌝ }
-    ensures { λ r. ⌜ r ≡ cmpRows (naturals (now (a .entry))) (naturals (now (b .entry))) ⌝ }
-{
-    let mut order = Ordering::Equal;
-    let mut k = 0;
-    while k < a.len() {
-        let x = natural_at(a, k);
-        let y = natural_at(b, k);
-        if x < y {
-            order = Ordering::Less;
-            break;
-        }
-        if y < x {
-            order = Ordering::Greater;
-            break;
-        }
-        k += 1;
-    }
-    order
+    let mut index = [0i32; 4];
+    axes::unravel_into(n, shape, 1, rank(shape), &mut index, 0);
+    [
+        cells::get(&index, 0),
+        cells::get(&index, 1),
+        cells::get(&index, 2),
+        cells::get(&index, 3),
+    ]
 }

@@ -16,7 +16,7 @@ use Rattle.rules.proofs.Same.{same-true}
 use Rattle.rules.proofs.Sets.{among-in, in-among, head-least, next-increasing}
 use Rattle.rules.proofs.Keeping.{keep-pass, keep-fail, keep-length}
 use Rattle.tables.specs.Rows.{rowAt, rowsAt}
-use Rattle.tables.specs.Tables.{tableAt, nextOf, common, Common}
+use Rattle.tables.specs.Tables.{tableAt, nextOf, commonRows, CommonRows}
 use Rattle.tables.proofs.Rows.{length-rows, rows-none, rows-head, has-first}
 use Rattle.tables.proofs.Tables.{table-length}
 use Rattle.tables.proofs.Walking.{left-rest, Movable, Walk, first-left, second-left, both-left, both-next, pass, move, counted}
@@ -38,7 +38,7 @@ keep-same f g [] h = refl
 keep-same f g (x ∷ t) h = rw (h x (List·Memᴰ·head refl), keep-same f g t (λ r m. h r (List·Memᴰ·tail m)))
 
 -- a row below all of a has no part in what is common
-below-all : (y : List ℕ) (a b : List (List ℕ)) → ((r : List ℕ) → In r a → cmpRows y r ≡ Less) → common a (y ∷ b) ≡ common a b
+below-all : (y : List ℕ) (a b : List (List ℕ)) → ((r : List ℕ) → In r a → cmpRows y r ≡ Less) → commonRows a (y ∷ b) ≡ commonRows a b
 unfolding any
 below-all y a b h = keep-same (λ r. among r (y ∷ b)) (λ r. among r b) a (λ r m. go r (same r y) refl (h r m))
   where
@@ -47,20 +47,20 @@ below-all y a b h = keep-same (λ r. among r (y ∷ b)) (λ r. among r b) a (λ 
     go r false e l = rw e
 
 -- the first list has the next row
-common-first : {x : List ℕ} {a b : List (List ℕ)} → Increasing (x ∷ a) → Increasing b → nextOf (x ∷ a) b ≡ Less → common (x ∷ a) b ≡ common a b
+common-first : {x : List ℕ} {a b : List (List ℕ)} → Increasing (x ∷ a) → Increasing b → nextOf (x ∷ a) b ≡ Less → commonRows (x ∷ a) b ≡ commonRows a b
 unfolding nextOf
 common-first {x} {a} {b = []} i j e = keep-fail (λ r. among r []) a (not-in-among x [] List·Memᴰ·not-nil)
 common-first {x} {a} {b = y ∷ b} i j e =
     keep-fail (λ r. among r (y ∷ b)) a (not-in-among x (y ∷ b) (λ m. less-not-same x (head-least (next-increasing e j) m)))
 
 -- the second list has the next row
-common-second : {y : List ℕ} {a b : List (List ℕ)} → Increasing a → Increasing (y ∷ b) → nextOf a (y ∷ b) ≡ Greater → common a (y ∷ b) ≡ common a b
+common-second : {y : List ℕ} {a b : List (List ℕ)} → Increasing a → Increasing (y ∷ b) → nextOf a (y ∷ b) ≡ Greater → commonRows a (y ∷ b) ≡ commonRows a b
 unfolding nextOf
 common-second {a = []} i j e = unfold keep in refl
 common-second {y} {a = x ∷ a} {b} i j e = below-all y (x ∷ a) b (λ r m. head-least (next-increasing (cmp-greater-flip x y e) i) m)
 
 -- both lists have the next row
-common-both : {x y : List ℕ} {a b : List (List ℕ)} → Increasing (x ∷ a) → Increasing (y ∷ b) → nextOf (x ∷ a) (y ∷ b) ≡ Equal → common (x ∷ a) (y ∷ b) ≡ x ∷ common a b
+common-both : {x y : List ℕ} {a b : List (List ℕ)} → Increasing (x ∷ a) → Increasing (y ∷ b) → nextOf (x ∷ a) (y ∷ b) ≡ Equal → commonRows (x ∷ a) (y ∷ b) ≡ x ∷ commonRows a b
 unfolding nextOf
 common-both {x} {y} {a} {b} i j e =
     let d : x ≡ y = cmp-equal e in
@@ -69,14 +69,14 @@ common-both {x} {y} {a} {b} i j e =
 
 -- ---- the walk
 
-module _ {x y to w p n q m k : ℕ} {s t : List ℤ} (g : Walk common x y to w p n q m k s t) where
+module _ {x y to w p n q m k : ℕ} {s t : List ℤ} (g : Walk commonRows x y to w p n q m k s t) where
   module _ {o : Ordering} (e : o ≡ nextOf (rowsAt p w n t) (rowsAt q w m t)) where
     -- the first table has the next row
     pub first-ends : o ≡ Less → (0 < n) × (p + w ≤ length t)
     first-ends d = let some = first-left g e d in (some, has-first (g .first .rows) some .room)
 
     -- it is passed
-    pub less : o ≡ Less → Walk common x y to w (p + w) (n - 1) q m k s t
+    pub less : o ≡ Less → Walk commonRows x y to w (p + w) (n - 1) q m k s t
     less d =
         let some = first-left g e d in
         let head = rows-head p w n t some in
@@ -92,7 +92,7 @@ module _ {x y to w p n q m k : ℕ} {s t : List ℤ} (g : Walk common x y to w p
       second-ends d = let some = second-left g e sum d in (some, has-first (g .second .rows) some .room)
 
       -- it is passed
-      pub greater : o ≡ Greater → Walk common x y to w p n (q + w) (m - 1) k s t
+      pub greater : o ≡ Greater → Walk commonRows x y to w p n (q + w) (m - 1) k s t
       greater d =
           let some = second-left g e sum d in
           let head = rows-head q w m t some in
@@ -101,7 +101,7 @@ module _ {x y to w p n q m k : ℕ} {s t : List ℤ} (g : Walk common x y to w p
 
     module _ (d : o ≡ Equal) where
       -- both tables have it
-      both : common (rowsAt p w n t) (rowsAt q w m t) ≡ rowAt p w t ∷ common (rowsAt (p + w) w (n - 1) t) (rowsAt (q + w) w (m - 1) t)
+      both : commonRows (rowsAt p w n t) (rowsAt q w m t) ≡ rowAt p w t ∷ commonRows (rowsAt (p + w) w (n - 1) t) (rowsAt (q + w) w (m - 1) t)
       both =
           let some = both-left g e d in
           let head = rows-head p w n t (some .0) in
@@ -111,7 +111,7 @@ module _ {x y to w p n q m k : ℕ} {s t : List ℤ} (g : Walk common x y to w p
       -- there is room for it
       few : k < 128
       few =
-          let all : k + length (common (rowsAt p w n t) (rowsAt q w m t)) ≡ length (common (tableAt x w s) (tableAt y w s)) =
+          let all : k + length (commonRows (rowsAt p w n t) (rowsAt q w m t)) ≡ length (commonRows (tableAt x w s) (tableAt y w s)) =
           rw (length-append, length-rows) at (ap length (g .rows)) in
           omega (arith, all, ap length both, keep-length (λ r. among r (tableAt y w s)) (tableAt x w s), table-length x w s, g .asked .first .fits .few)
 
@@ -120,16 +120,16 @@ module _ {x y to w p n q m k : ℕ} {s t : List ℤ} (g : Walk common x y to w p
       both-moves = both-next g e few d
 
       -- it was moved
-      pub equal : {u : List ℤ} → u ≡ put (to + 1 + k * w) (part p w t) t → Walk common x y to w (p + w) (n - 1) (q + w) (m - 1) (k + 1) s u
+      pub equal : {u : List ℤ} → u ≡ put (to + 1 + k * w) (part p w t) t → Walk commonRows x y to w (p + w) (n - 1) (q + w) (m - 1) (k + 1) s u
       equal moved =
           let v = both-moves in
           move g (v .0) few moved (left-rest (g .first) (v .0 .some)) (left-rest (g .second) (v .1 .some)) both
 
   -- no row of the first is left
-  pub done : {u : List ℤ} → n ≤ 0 → u ≡ set t to (pos k) → Common x y to w s u
+  pub done : {u : List ℤ} → n ≤ 0 → u ≡ set t to (pos k) → CommonRows x y to w s u
   done h stored =
       let a : n ≡ 0 = omega arith in
-      let nothing : common (rowsAt p w n t) (rowsAt q w m t) ≡ [] = rw (a, rows-none p w t) (unfold keep in refl) in
+      let nothing : commonRows (rowsAt p w n t) (rowsAt q w m t) ≡ [] = rw (a, rows-none p w t) (unfold keep in refl) in
       let c = counted g stored nothing in
       record { table = c .0; only = c .1 }
 

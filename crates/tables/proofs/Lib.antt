@@ -15,3 +15,4 @@ pub mod Walking
 pub mod MergeWalk
 pub mod CommonWalk
 pub mod Made
+pub mod Passing

@@ -12,7 +12,7 @@ use Rattle.rules.proofs.Sets.{each-nil, each-append}
 use Rattle.rules.proofs.Sorting.{insert-each, insert-increasing, sorted-each, sorted-increasing, sorted-length}
 use Rattle.rules.proofs.Keeping.{keep-only, keep-increasing, keep-length}
 use Rattle.cells.specs.View.{Low}
-use Rattle.tables.specs.Tables.{tableAt, roomEnd, Ready, Put, SortAsked, Sorted, PairAsked, Merged, Common}
+use Rattle.tables.specs.Tables.{tableAt, roomEnd, Ready, Put, SortAsked, Sorted, PairAsked, Merged, CommonRows}
 use Rattle.tables.proofs.Rows.{rows-none}
 use Rattle.tables.proofs.Tables.{table-length, count-stored}
 
@@ -53,7 +53,7 @@ module _ {x y to w : ℕ} {s t : List ℤ} (a : PairAsked x y to w s) where
       (sorted-each (each-append (a .first .fits .low) (a .second .fits .low))) (sorted-increasing (tableAt x w s ++ tableAt y w s))
 
   -- a table of the common rows of two
-  pub common-ready : Common x y to w s t → Ready to w t
+  pub common-ready : CommonRows x y to w s t → Ready to w t
   common-ready p =
       let rows = tableAt x w s in
       let test : List ℕ → Bool = λ r. among r (tableAt y w s) in

@@ -5,7 +5,7 @@ use lib.ListN.{getD}
 use Rattle.rules.specs.Buffers.{part}
 use Rattle.cells.specs.View.{view}
 use borrow.Author.Needs.{needs}
-use Rattle.records.proofs.Passing.{Passed}
+use Rattle.tables.proofs.Passing.{Passed}
 use Rattle.records.proofs.Numbers.{alikes}
 use Rattle.records.proofs.alike.Statement.{statement}
 use Rattle.records.proofs.alike.Tie as tie

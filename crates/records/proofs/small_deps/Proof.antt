@@ -5,7 +5,7 @@ use borrow.Author.Needs.{needs}
 use Rattle.tables.specs.Rows.{rowsAt}
 use Rattle.tables.proofs.Rows.{row-ends}
 use Rattle.records.specs.Judging.{smallDep}
-use Rattle.records.proofs.Passing.{Passed}
+use Rattle.tables.proofs.Passing.{Passed}
 use Rattle.records.proofs.RowTests.{smalls}
 use Rattle.records.proofs.small_deps.Statement.{statement}
 use Rattle.records.proofs.small_deps.Tie as tie

@@ -4,7 +4,7 @@ use Rattle.rules.specs.Buffers.{part}
 use Rattle.cells.specs.View.{view}
 use Rattle.records.specs.Judging.{small}
 use borrow.Author.Needs.{needs}
-use Rattle.records.proofs.Passing.{Passed}
+use Rattle.tables.proofs.Passing.{Passed}
 use Rattle.records.proofs.Numbers.{smalls}
 use Rattle.records.proofs.small_numbers.Statement.{statement}
 use Rattle.records.proofs.small_numbers.Tie as tie

@@ -2,7 +2,7 @@
 use mathlib.Core.Path.{refl, sym}
 use borrow.Author.Needs.{needs}
 use Rattle.rules.proofs.Same.{true-not-false}
-use Rattle.records.proofs.SoundRecords.{no-head, sound-record, plain-record}
+use Rattle.records.proofs.SoundRecords.{no-head, sound-record, readable-record}
 use Rattle.records.proofs.sound.Statement.{statement}
 use Rattle.records.proofs.sound.Tie as tie
 
@@ -19,7 +19,7 @@ returns : tie.Need-returns
 returns c =
     let read = c .before .before in
     let r = sound-record _ (read .sound-head .ensures .0) (read .sound-head .ensures .1) (c .enum-told .given .1) in
-    (sym (r .judged), λ e. plain-record r)
+    (sym (r .judged), λ e. readable-record r)
 
 returns-2 : tie.Need-returns-2
 returns-2 c = (sym (search no-head), λ e. absurd (true-not-false e refl))

@@ -1,8 +1,8 @@
--- `sound_by`: each test decides where those before it hold, and a record that passed the first two is plain.
+-- `sound_by`: each test decides where those before it hold, and a record that passed the first two is readable.
 use mathlib.Core.Path.{refl}
 use borrow.Author.Needs.{needs}
 use Rattle.rules.proofs.Same.{true-not-false}
-use Rattle.records.proofs.Answers.{is-plain, judged}
+use Rattle.records.proofs.Answers.{is-readable, judged}
 use Rattle.records.proofs.sound_by.Statement.{statement}
 use Rattle.records.proofs.sound_by.Tie as tie
 
@@ -28,7 +28,7 @@ within-sizes-requires : tie.Need-within-sizes-requires
 within-sizes-requires c κs = search (needs, judged)
 
 returns-4 : tie.Need-returns-4
-returns-4 c = (search (needs, judged), λ e. search is-plain)
+returns-4 c = (search (needs, judged), λ e. search is-readable)
 
 pub sound-by-spec : {M : Type 1} → statement M
 sound-by-spec =

@@ -1,6 +1,6 @@
 -- `sound_head`: the head that was read, if the record is sound by it.
 use borrow.Author.Needs.{needs}
-use Rattle.records.proofs.SoundRecords.{heads, passed-plain}
+use Rattle.records.proofs.SoundRecords.{heads, passed-readable}
 use Rattle.records.proofs.sound_head.Statement.{statement}
 use Rattle.records.proofs.sound_head.Tie as tie
 
@@ -23,7 +23,7 @@ returns-2 : tie.Need-returns-2
 returns-2 c = (search (needs, heads), tt)
 
 returns-3 : tie.Need-returns-3
-returns-3 c = (search (needs, heads), search passed-plain)
+returns-3 c = (search (needs, heads), search passed-readable)
 
 pub sound-head-spec : {M : Type 1} → statement M
 sound-head-spec =

@@ -1,6 +1,8 @@
 -- `rows_fit`: natural, inside the shape and all different, in turn.
+use native.Mathlib.Omega.{arith}
 use borrow.Author.Needs.{needs}
-use Rattle.forms.proofs.Fitting.{rows-there, rows-within, fits}
+use Rattle.shapes.proofs.Judging.{shape-extents}
+use Rattle.forms.proofs.Fitting.{rows-long, rows-there, rows-within, fits}
 use Rattle.forms.proofs.rows.rows_fit.Statement.{statement}
 use Rattle.forms.proofs.rows.rows_fit.Tie as tie
 
@@ -16,8 +18,12 @@ all-natural-requires c κs = search needs
 returns-2 : tie.Need-returns-2
 returns-2 c = search (needs, fits)
 
-rows-inside-requires : tie.Need-rows-inside-requires
-rows-inside-requires c κs = search (needs, fits)
+rows-below-requires : tie.Need-rows-below-requires
+rows-below-requires c κs =
+    let axes = c .before .before .before in
+    let given = axes .before .pre in
+    let wide = axes .rank .ensures .0 in
+    (omega (arith, rows-long _ _ _ (given .1) wide), shape-extents _ (given .0) wide .room)
 
 returns-3 : tie.Need-returns-3
 returns-3 c = search (needs, fits)
@@ -30,9 +36,9 @@ rows-differ-requires c κs =
     let given = axes .before .pre in
     let wide = axes .rank .ensures .0 in
     let told = natural .before .all-natural .ensures in
-    let inside = c .before .rows-inside .ensures in
+    let inside = c .before .rows-below .ensures in
     let none = natural .if2 .left in
-    (rows-within _ _ _ (given .1) wide (told .0) (some .if1 .left) none inside (given .0) (c .if3 .left), rows-there _ _ _ (given .1) wide (told .1) none)
+    (rows-within _ _ _ (given .1) wide (told .0) (some .if1 .left) none (given .0) inside (c .if3 .left), rows-there _ _ _ (given .1) wide (told .1) none)
 
 returns-4 : tie.Need-returns-4
 returns-4 c = search (needs, fits)
@@ -45,7 +51,7 @@ rows-fit-spec =
     returns
     all-natural-requires
     returns-2
-    rows-inside-requires
+    rows-below-requires
     returns-3
     rows-differ-requires
     returns-4)

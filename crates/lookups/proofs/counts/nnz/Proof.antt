@@ -8,15 +8,6 @@ use Rattle.lookups.proofs.counts.nnz.Tie as tie
 get-requires : tie.Need-get-requires
 get-requires c κs = search needs
 
-sub-product : tie.Need-sub-product
-sub-product c = search needs
-
-part-product-start : tie.Need-part-product-start
-part-product-start c = search needs
-
-part-product-end : tie.Need-part-product-end
-part-product-end c = search needs
-
 product-requires : tie.Need-product-requires
 product-requires c κs = search (needs, lent, laws)
 
@@ -46,9 +37,6 @@ nnz-spec =
     tie.close
     (tie.spec
     get-requires
-    sub-product
-    part-product-start
-    part-product-end
     product-requires
     returns
     sub-extent

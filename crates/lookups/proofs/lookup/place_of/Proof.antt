@@ -1,21 +1,12 @@
 -- `place_of`: by the kind, where the index is inside the shape.
 use Rattle.lookups.proofs.SoundRecords.{lent}
-use Rattle.lookups.proofs.Finding.{places}
+use Rattle.lookups.proofs.Finding.{places, rows-lie}
 use borrow.Author.Needs.{needs}
 use Rattle.lookups.proofs.lookup.place_of.Statement.{statement}
 use Rattle.lookups.proofs.lookup.place_of.Tie as tie
 
-sub-inside : tie.Need-sub-inside
-sub-inside c = search needs
-
-part-inside-start : tie.Need-part-inside-start
-part-inside-start c = search needs
-
-part-inside-end : tie.Need-part-inside-end
-part-inside-end c = search needs
-
-inside-requires : tie.Need-inside-requires
-inside-requires c κs = search (needs, lent, places)
+row-below-requires : tie.Need-row-below-requires
+row-below-requires c κs = rows-lie (c .pre .0) (c .pre .1 .1)
 
 returns : tie.Need-returns
 returns c = search (needs, lent, places)
@@ -57,10 +48,7 @@ pub place-of-spec : {M : Type 1} → statement M
 place-of-spec =
     tie.close
     (tie.spec
-    sub-inside
-    part-inside-start
-    part-inside-end
-    inside-requires
+    row-below-requires
     returns
     get-requires
     sub-ravel

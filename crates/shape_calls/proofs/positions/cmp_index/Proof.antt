@@ -3,7 +3,7 @@ use borrow.Author.Needs.{needs}
 use Rattle.rules.specs.Positions.{cmpIndexCall}
 use Rattle.rules.specs.Refusals.{numberOf}
 use Rattle.judging.proofs.Judged.{judged}
-use Rattle.judging.proofs.Required.{lengths-same}
+use Rattle.judging.proofs.Required.{index-rows, index-order}
 use Rattle.shape_calls.proofs.positions.cmp_index.Statement.{statement}
 use Rattle.shape_calls.proofs.positions.cmp_index.Tie as tie
 
@@ -14,12 +14,14 @@ returns : tie.Need-returns
 unfolding cmpIndexCall numberOf
 returns c = search judged
 
-cmp-requires : tie.Need-cmp-requires
-cmp-requires c κs = search lengths-same
+cmp-rows-requires : tie.Need-cmp-rows-requires
+cmp-rows-requires c κs = search index-rows
 
 returns-2 : tie.Need-returns-2
 unfolding cmpIndexCall numberOf
-returns-2 c = search judged
+returns-2 c =
+    let order = index-order _ _ (c .before .before .comparable .ensures) (c .before .if1 .left) (c .cmp-rows .ensures) in
+    search judged
 
 pub cmp-index-spec : {M : Type 1} → statement M
-cmp-index-spec = tie.close (tie.spec comparable-requires returns cmp-requires returns-2)
+cmp-index-spec = tie.close (tie.spec comparable-requires returns cmp-rows-requires returns-2)

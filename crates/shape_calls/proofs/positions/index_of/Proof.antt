@@ -3,7 +3,7 @@ use mathlib.Core.Path.{sym, _∙_}
 use borrow.Author.Needs.{needs}
 use Rattle.rules.specs.Positions.{unravelIndex}
 use Rattle.rules.specs.Refusals.{numberOf}
-use Rattle.shapes.proofs.Locating.{length-unravel}
+use Rattle.axes.proofs.Indices.{unravel-length}
 use Rattle.judging.proofs.Judged.{judged, told-true, told-false}
 use Rattle.shape_calls.proofs.Tuples.{tuple-same, tuple-given}
 use Rattle.shape_calls.proofs.positions.index_of.Statement.{statement}
@@ -32,7 +32,7 @@ unfolding unravelIndex numberOf
 returns-2 c =
     let some = c .before .before in
     let none = told-false _ (some .before .any-zero .ensures) (some .if1 .left) in
-    tuple-given _ (c .before .rank .ensures .0 ∙ sym (length-unravel _ _)) (c .unravel .ensures) (search judged)
+    tuple-given _ (c .before .rank .ensures .0 ∙ sym (unravel-length _ _)) (c .unravel .ensures) (search judged)
 
 pub index-of-spec : {M : Type 1} → statement M
 index-of-spec =

@@ -1,72 +1,54 @@
--- `within_product`: the product of the extents before k but the zeros.
-use Prim.Native.Nat.{_-_}
-use native.Mathlib.Omega.{arith}
+-- `within_product`: as numbers of a slice.
 use borrow.Author.Needs.{needs}
-use Rattle.records.proofs.Products.{Multiplied, product-fits, stop-alone, laws}
+use Rattle.shapes.proofs.Fitting.{four-within}
 use Rattle.shapes.proofs.extents.within_product.Statement.{statement}
 use Rattle.shapes.proofs.extents.within_product.Tie as tie
 
-abbrev Inv-loop : tie.InvT-loop
-Inv-loop extents product₀ k₀ product k = Multiplied 4 k product extents
+array-read-whole : tie.Need-array-read-whole
+array-read-whole c = search needs
 
-abbrev μ-loop : tie.MeasureT-loop
-μ-loop extents product₀ k₀ product k = 4 - k
+whole-requires : tie.Need-whole-requires
+whole-requires c κs = c .pre 0
 
-loop-holds : tie.Need-loop-holds Inv-loop μ-loop
-loop-holds c = search (needs, laws, stop-alone)
+array-read-whole-2 : tie.Need-array-read-whole-2
+array-read-whole-2 c = search needs
 
-mul-extent : tie.Need-mul-extent Inv-loop μ-loop
-mul-extent c = search (needs, laws, stop-alone)
+whole-requires-2 : tie.Need-whole-requires-2
+whole-requires-2 c κs = c .before .pre 1
 
-array-read-extent : tie.Need-array-read-extent Inv-loop μ-loop
-array-read-extent c = search (needs, laws, stop-alone)
+array-read-whole-3 : tie.Need-array-read-whole-3
+array-read-whole-3 c = search needs
 
-add-k : tie.Need-add-k Inv-loop μ-loop
-add-k c = search (needs, laws, stop-alone)
+whole-requires-3 : tie.Need-whole-requires-3
+whole-requires-3 c κs = c .before .before .pre 2
 
-loop-less : tie.Need-loop-less Inv-loop μ-loop
-loop-less c = search (needs, laws, stop-alone)
+array-read-whole-4 : tie.Need-array-read-whole-4
+array-read-whole-4 c = search needs
 
-loop-again : tie.Need-loop-again Inv-loop μ-loop
-loop-again c = search (needs, laws, stop-alone)
+whole-requires-4 : tie.Need-whole-requires-4
+whole-requires-4 c κs = c .before .before .before .pre 3
 
-returns : tie.Need-returns Inv-loop μ-loop
-returns c = search (needs, laws, stop-alone)
+slice-aggregate-within-product : tie.Need-slice-aggregate-within-product
+slice-aggregate-within-product c = search needs
 
-mul-product : tie.Need-mul-product Inv-loop μ-loop
-mul-product c = product-fits (c .before .before .before .loop .inv) (omega arith)
+within-product-requires : tie.Need-within-product-requires
+within-product-requires c κs = search needs
 
-returns-2 : tie.Need-returns-2 Inv-loop μ-loop
-returns-2 c = search (needs, laws, stop-alone)
-
-add-k-2 : tie.Need-add-k-2 Inv-loop μ-loop
-add-k-2 c = search (needs, laws, stop-alone)
-
-loop-less-2 : tie.Need-loop-less-2 Inv-loop μ-loop
-loop-less-2 c = search (needs, laws, stop-alone)
-
-loop-again-2 : tie.Need-loop-again-2 Inv-loop μ-loop
-loop-again-2 c = search (needs, laws, stop-alone)
-
-returns-3 : tie.Need-returns-3 Inv-loop μ-loop
-returns-3 c = search (needs, laws, stop-alone)
+returns : tie.Need-returns
+returns c = search (needs, four-within)
 
 pub within-product-spec : {M : Type 1} → statement M
 within-product-spec =
     tie.close
     (tie.spec
-    Inv-loop
-    μ-loop
-    loop-holds
-    mul-extent
-    array-read-extent
-    add-k
-    loop-less
-    loop-again
-    returns
-    mul-product
-    returns-2
-    add-k-2
-    loop-less-2
-    loop-again-2
-    returns-3)
+    array-read-whole
+    whole-requires
+    array-read-whole-2
+    whole-requires-2
+    array-read-whole-3
+    whole-requires-3
+    array-read-whole-4
+    whole-requires-4
+    slice-aggregate-within-product
+    within-product-requires
+    returns)

@@ -3,7 +3,7 @@ use Prim.Native.Nat.{_-_}
 use borrow.Author.Needs.{needs}
 use Rattle.rules.specs.Lists.{below}
 use Rattle.rules.specs.Shapes.{axisAgrees}
-use Rattle.records.proofs.Passing.{Passed}
+use Rattle.tables.proofs.Passing.{Passed}
 use Rattle.shapes.specs.Judged.{shapesOf}
 use Rattle.shapes.proofs.Common.{agree-is}
 use Rattle.shapes.proofs.Passing.{below-laws}

@@ -4,7 +4,7 @@ use lib.ListN.{length}
 use borrow.Author.Needs.{needs}
 use Rattle.rules.specs.Arguments.{upTo, goodComponents}
 use Rattle.rules.specs.Limits.{componentLimit}
-use Rattle.records.proofs.Passing.{Passed, passing}
+use Rattle.tables.proofs.Passing.{Passed, passing}
 use Rattle.shapes.proofs.numbers.good_components.Statement.{statement}
 use Rattle.shapes.proofs.numbers.good_components.Tie as tie
 

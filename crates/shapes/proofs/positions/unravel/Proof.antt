@@ -1,63 +1,58 @@
--- `unravel`: the components from k on.
+-- `unravel`: written as numbers of a slice, and read by value.
 use borrow.Author.Needs.{needs}
-use Rattle.rules.specs.Record.{shapeIn}
-use Rattle.shapes.proofs.Locating.{Unraveled, unravel-laws}
+use Rattle.shapes.proofs.Locating.{unravel-laws}
 use Rattle.shapes.proofs.positions.unravel.Statement.{statement}
 use Rattle.shapes.proofs.positions.unravel.Tie as tie
 
-abbrev Inv-loop : tie.InvT-loop
-Inv-loop n shape index₀ rest₀ k₀ index rest k = Unraveled n (shapeIn shape) index rest k
+rank-requires : tie.Need-rank-requires
+rank-requires c κs = search needs
 
-abbrev μ-loop : tie.MeasureT-loop
-μ-loop n shape index₀ rest₀ k₀ index rest k = k
+slice-aggregate-unravel-into : tie.Need-slice-aggregate-unravel-into
+slice-aggregate-unravel-into c = search needs
 
-rank-requires : tie.Need-rank-requires Inv-loop μ-loop
-rank-requires c κs = search (needs, unravel-laws)
+unravel-into-requires : tie.Need-unravel-into-requires
+unravel-into-requires c κs = search (needs, unravel-laws)
 
-loop-holds : tie.Need-loop-holds Inv-loop μ-loop
-loop-holds c = search (needs, unravel-laws)
+slice-aggregate-get : tie.Need-slice-aggregate-get
+slice-aggregate-get c = search needs
 
-sub-k : tie.Need-sub-k Inv-loop μ-loop
-sub-k c = search (needs, unravel-laws)
+get-requires : tie.Need-get-requires
+get-requires c κs = search needs
 
-extent-requires : tie.Need-extent-requires Inv-loop μ-loop
-extent-requires c κs = search (needs, unravel-laws)
+slice-aggregate-get-2 : tie.Need-slice-aggregate-get-2
+slice-aggregate-get-2 c = search needs
 
-rem-index : tie.Need-rem-index Inv-loop μ-loop
-rem-index c = search (needs, unravel-laws)
+get-requires-2 : tie.Need-get-requires-2
+get-requires-2 c κs = search needs
 
-mul-index : tie.Need-mul-index Inv-loop μ-loop
-mul-index c = search (needs, unravel-laws)
+slice-aggregate-get-3 : tie.Need-slice-aggregate-get-3
+slice-aggregate-get-3 c = search needs
 
-array-write-index : tie.Need-array-write-index Inv-loop μ-loop
-array-write-index c = search (needs, unravel-laws)
+get-requires-3 : tie.Need-get-requires-3
+get-requires-3 c κs = search needs
 
-div-rest : tie.Need-div-rest Inv-loop μ-loop
-div-rest c = search (needs, unravel-laws)
+slice-aggregate-get-4 : tie.Need-slice-aggregate-get-4
+slice-aggregate-get-4 c = search needs
 
-loop-less : tie.Need-loop-less Inv-loop μ-loop
-loop-less c = search (needs, unravel-laws)
+get-requires-4 : tie.Need-get-requires-4
+get-requires-4 c κs = search needs
 
-loop-again : tie.Need-loop-again Inv-loop μ-loop
-loop-again c = search (needs, unravel-laws)
-
-returns : tie.Need-returns Inv-loop μ-loop
+returns : tie.Need-returns
 returns c = search (needs, unravel-laws)
 
 pub unravel-spec : {M : Type 1} → statement M
 unravel-spec =
     tie.close
     (tie.spec
-    Inv-loop
-    μ-loop
     rank-requires
-    loop-holds
-    sub-k
-    extent-requires
-    rem-index
-    mul-index
-    array-write-index
-    div-rest
-    loop-less
-    loop-again
+    slice-aggregate-unravel-into
+    unravel-into-requires
+    slice-aggregate-get
+    get-requires
+    slice-aggregate-get-2
+    get-requires-2
+    slice-aggregate-get-3
+    get-requires-3
+    slice-aggregate-get-4
+    get-requires-4
     returns)

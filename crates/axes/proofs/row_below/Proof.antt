@@ -1,15 +1,15 @@
 -- `row_below`: at each turn the first k components are below their extents.
 use Prim.Native.Nat.{_-_}
 use borrow.Author.Needs.{needs}
-use Rattle.records.proofs.Below.{Under, laws}
-use Rattle.records.proofs.row_below.Statement.{statement}
-use Rattle.records.proofs.row_below.Tie as tie
+use Rattle.axes.proofs.Below.{Under, laws}
+use Rattle.axes.proofs.row_below.Statement.{statement}
+use Rattle.axes.proofs.row_below.Tie as tie
 
 abbrev Inv-loop : tie.InvT-loop
-Inv-loop s a w k₀ k = Under a w k s
+Inv-loop s a t at w k₀ k = Under a at w k s t
 
 abbrev μ-loop : tie.MeasureT-loop
-μ-loop s a w k₀ k = w - k
+μ-loop s a t at w k₀ k = w - k
 
 loop-holds : tie.Need-loop-holds Inv-loop μ-loop
 loop-holds c = search (needs, laws)

@@ -2,51 +2,51 @@
 use Prim.Native.Nat.{_-_}
 use borrow.Author.Needs.{needs}
 use Rattle.tables.specs.Rows.{rowAt}
-use Rattle.records.proofs.Products.{Multiplied, in-slice}
-use Rattle.records.proofs.within_product.Statement.{statement}
-use Rattle.records.proofs.within_product.Tie as tie
+use Rattle.axes.proofs.Products.{Limited, limits}
+use Rattle.axes.proofs.within_product.Statement.{statement}
+use Rattle.axes.proofs.within_product.Tie as tie
 
 abbrev Inv-loop : tie.InvT-loop
-Inv-loop s a n product₀ k₀ product k = Multiplied n k product (rowAt a n s)
+Inv-loop s at rank product₀ k₀ product k = Limited rank k product (rowAt at rank s)
 
 abbrev μ-loop : tie.MeasureT-loop
-μ-loop s a n product₀ k₀ product k = n - k
+μ-loop s at rank product₀ k₀ product k = rank - k
 
 loop-holds : tie.Need-loop-holds Inv-loop μ-loop
-loop-holds c = search (needs, in-slice)
+loop-holds c = search (needs, limits)
 
 add-get : tie.Need-add-get Inv-loop μ-loop
-add-get c = search (needs, in-slice)
+add-get c = search (needs, limits)
 
 get-requires : tie.Need-get-requires Inv-loop μ-loop
-get-requires c κs = search (needs, in-slice)
+get-requires c κs = search (needs, limits)
 
 add-k : tie.Need-add-k Inv-loop μ-loop
-add-k c = search (needs, in-slice)
+add-k c = search (needs, limits)
 
 loop-less : tie.Need-loop-less Inv-loop μ-loop
-loop-less c = search (needs, in-slice)
+loop-less c = search (needs, limits)
 
 loop-again : tie.Need-loop-again Inv-loop μ-loop
-loop-again c = search (needs, in-slice)
+loop-again c = search (needs, limits)
 
 mul-product : tie.Need-mul-product Inv-loop μ-loop
-mul-product c = search (needs, in-slice)
+mul-product c = search (needs, limits)
 
 returns : tie.Need-returns Inv-loop μ-loop
-returns c = search (needs, in-slice)
+returns c = search (needs, limits)
 
 add-k-2 : tie.Need-add-k-2 Inv-loop μ-loop
-add-k-2 c = search (needs, in-slice)
+add-k-2 c = search (needs, limits)
 
 loop-less-2 : tie.Need-loop-less-2 Inv-loop μ-loop
-loop-less-2 c = search (needs, in-slice)
+loop-less-2 c = search (needs, limits)
 
 loop-again-2 : tie.Need-loop-again-2 Inv-loop μ-loop
-loop-again-2 c = search (needs, in-slice)
+loop-again-2 c = search (needs, limits)
 
 returns-2 : tie.Need-returns-2 Inv-loop μ-loop
-returns-2 c = search (needs, in-slice)
+returns-2 c = search (needs, limits)
 
 pub within-product-spec : {M : Type 1} → statement M
 within-product-spec =

@@ -1,0 +1,87 @@
+// Extents in a slice, and indices over them. A shape is a slice, the place of its first extent and its rank, wherever it stands: in a
+// record, in an argument, in a part of the working buffer.
+ghost use mathlib.Core.Path.{_≡_};
+ghost use mathlib.Core.List.{map};
+ghost use Prim.Native.Nat.{_+_, _*_, _≤_};
+ghost use lib.IntN.{pos};
+ghost use lib.ListN.{length};
+ghost use Rattle.rules.specs.Lists.{all, allBelow, product};
+ghost use Rattle.rules.specs.Buffers.{put};
+ghost use Rattle.rules.specs.Layout.{withinProduct};
+ghost use Rattle.rules.specs.Positions.{unravel};
+ghost use Rattle.tables.specs.Rows.{rowAt, rowsAt};
+ghost use Rattle.axes.specs.Extents.{Extents, IndexAsked};
+
+// Whether the product of those extents that are not zero is at most 65,536.
+pub fn within_product(s: &[i32], at: usize, rank: usize) -> bool
+    requires { ⌜ at + rank ≤ length (now s) ⌝ }
+    ensures { λ r. ⌜ r ≡ withinProduct (rowAt at rank (now (s .entry))) ⌝ }
+{
+    let mut product: usize = 1;
+    for k in 0..rank {
+        let extent = cells::get(s, at + k);
+        if extent == 0 {
+            continue;
+        }
+        product *= extent;
+        if 65536 < product {
+            return false;
+        }
+    }
+    true
+}
+
+// The product of all extents.
+pub fn product(s: &[i32], at: usize, rank: usize) -> usize
+    requires { ⌜ Extents at rank (now s) ⌝ }
+    ensures { λ r. ⌜ r ≡ product (rowAt at rank (now (s .entry))) ⌝ }
+{
+    let mut product: usize = 1;
+    for k in 0..rank {
+        product *= cells::get(s, at + k);
+    }
+    product
+}
+
+// Whether each of the w components at a of s is below the extent of its axis; the first extent stands at a place of t.
+pub fn row_below(s: &[i32], a: usize, t: &[i32], at: usize, w: usize) -> bool
+    requires { ⌜ (a + w ≤ length (now s)) × (at + w ≤ length (now t)) ⌝ }
+    ensures { λ r. ⌜ r ≡ allBelow (rowAt a w (now (s .entry))) (rowAt at w (now (t .entry))) ⌝ }
+{
+    for k in 0..w {
+        let component = cells::get(s, a + k);
+        let extent = cells::get(t, at + k);
+        if extent <= component {
+            return false;
+        }
+    }
+    true
+}
+
+// The same of n rows from a of s on.
+pub fn rows_below(s: &[i32], a: usize, n: usize, t: &[i32], at: usize, w: usize) -> bool
+    requires { ⌜ (a + n * w ≤ length (now s)) × (at + w ≤ length (now t)) ⌝ }
+    ensures { λ r. ⌜ r ≡ all (λ row. allBelow row (rowAt at w (now (t .entry)))) (rowsAt a w n (now (s .entry))) ⌝ }
+{
+    for i in 0..n {
+        if !row_below(s, a + i * w, t, at, w) {
+            return false;
+        }
+    }
+    true
+}
+
+// The index of a number goes into a slice from a place on: the last axis first, each by its remainder.
+pub fn unravel_into(number: usize, s: &[i32], at: usize, rank: usize, out: &mut [i32], to: usize)
+    requires { ⌜ IndexAsked at rank (now s) to (now out) ⌝ }
+    ensures { λ _. ⌜ now (out .exit) ≡ put to (map pos (unravel number (rowAt at rank (now (s .entry))))) (now (out .entry)) ⌝ }
+{
+    let mut left = number;
+    let mut k = rank;
+    while 0 < k {
+        k -= 1;
+        let extent = cells::get(s, at + k);
+        cells::store(out, to + k, left % extent);
+        left /= extent;
+    }
+}
