@@ -24,7 +24,7 @@ use Rattle.cells.specs.View.{view}
 use Rattle.cells.proofs.Written.{Written, nothing, before}
 use Rattle.tables.specs.Rows.{rowAt}
 use Rattle.tables.proofs.Rows.{row-length, row-number}
-use Rattle.axes.specs.Extents.{Extents, IndexAsked}
+use Rattle.axes.specs.Extents.{IndexAsked}
 
 -- ---- extents that are not zero
 

@@ -24,7 +24,7 @@ pub fn within_product(s: &[i32], at: usize, rank: usize) -> bool
             continue;
         }
         product *= extent;
-        if 65536 < product {
+        if rules::PRODUCT_LIMIT < product {
             return false;
         }
     }

@@ -6,9 +6,9 @@ ghost use Rattle.rules.specs.Arguments.{overRank};
 ghost use Rattle.rules.specs.Refusals.{inForm};
 ghost use Rattle.rules.specs.Endings.{EndsIn};
 ghost use Rattle.rules.specs.CountsAndForms.{toDenseCall, toDataLayoutCall, newEmptyCall, newScalarCall, denseCall, diagonalCall, sparseCall};
+use cells::Sign;
 use judging::Shape;
 use judging::judge_shape;
-use cells::Sign;
 use rules::Refusal;
 use rules::Walk;
 use rules::Written;
@@ -50,7 +50,7 @@ fn over_rank(rank: i32) -> bool
     ensures { λ r. ⌜ r ≡ overRank rank ⌝ }
 {
     match cells::sign_of(rank) {
-        Sign::Natural(axes) => 4 < axes,
+        Sign::Natural(axes) => rules::RANK_LIMIT < axes,
         Sign::Negative => false,
     }
 }

@@ -27,8 +27,6 @@ use Rattle.rules.proofs.Ranges.{map-at}
 use Rattle.rules.proofs.RowsRead.{all-part, rows-length, rows-row}
 use Rattle.rules.proofs.Same.{both-true, true-not-false}
 use Rattle.rules.proofs.Tests.{all-at, true-both}
-use Rattle.cells.specs.View.{view}
-use Rattle.cells.proofs.View.{view-pos}
 use Rattle.tables.specs.Rows.{rowsAt}
 use Rattle.tables.proofs.Different.{different-length, twice-length}
 use Rattle.tables.proofs.Rows.{lent-row, row-ends}

@@ -26,7 +26,7 @@ fn rows_differ(shape: &[i32], w: usize, n: usize, numbers: &[i32]) -> bool
     requires { ⌜ HasRows 0 w n (now numbers) ⌝ }
     ensures { λ r. ⌜ r ≡ distinct (rowsAt 0 w n (now (numbers .entry))) ⌝ }
 {
-    if n <= 128 {
+    if n <= rules::ENTRY_LIMIT {
         return tables::all_differ(numbers, 0, n, w);
     }
     if tables::is_increasing(numbers, 0, n, w) {
@@ -64,7 +64,7 @@ pub fn sparse(shape: &[i32], n: usize, numbers: &[i32], result: &mut [i32]) -> W
     if !rows_fit(shape, n, numbers) {
         return Written::Refused(Refusal::MadeUnsound);
     }
-    if 128 < n {
+    if rules::ENTRY_LIMIT < n {
         return Written::Refused(Refusal::MadeTooLarge);
     }
     let none = [0i32; 2];

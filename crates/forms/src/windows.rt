@@ -47,7 +47,7 @@ pub fn differ_in_windows(shape: &[i32], w: usize, n: usize, numbers: &[i32]) -> 
     ensures { λ r. ⌜ r ≡ distinct (rowsAt 0 w n (now (numbers .entry))) ⌝ }
 {
     let mut a = 0;
-    while a < 65536 {
+    while a < rules::PRODUCT_LIMIT {
         if !differ_in_window(shape, w, n, numbers, a) {
             return false;
         }

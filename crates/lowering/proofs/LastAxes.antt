@@ -2,8 +2,8 @@
 use mathlib.Core.Path.{_≡_, sym, ap, _∙_}
 use mathlib.Core.Bool.{true}
 use mathlib.Core.List.{List, [], _∷_, _++_, map, append-assoc}
-use Prim.Native.Nat.{ℕ, zero, suc, _+_, _*_, _-_, _<_, _≤_}
-use native.Mathlib.Nat.{mul-comm, le-mul-of-pos-right, le-trans, zero-add}
+use Prim.Native.Nat.{ℕ, zero, suc, _+_, _-_, _<_, _≤_}
+use native.Mathlib.Nat.{mul-comm, le-mul-of-pos-right, le-trans}
 use native.Mathlib.Omega.{arith}
 use borrow.Author.Tests.{le-leb}
 use lib.Dec.{eqb·suc-zero}
@@ -16,7 +16,7 @@ use Rattle.rules.specs.Buffers.{part, put}
 use Rattle.rules.specs.Layout.{withinProduct, nonzeroProduct}
 use Rattle.rules.specs.Positions.{unravel}
 use Rattle.rules.specs.Removal.{positions}
-use Rattle.rules.proofs.Buffers.{part-take, length-put}
+use Rattle.rules.proofs.Buffers.{part-take}
 use Rattle.cells.specs.View.{view}
 use Rattle.cells.proofs.View.{view-length, view-put, view-pos}
 use Rattle.tables.specs.Rows.{rowAt}

@@ -4,7 +4,7 @@ use mathlib.Core.List.{List, _∷_, _++_, map, map-append}
 use Prim.Native.Nat.{ℕ, suc, _+_, _-_, _≤_}
 use native.Mathlib.Omega.{arith}
 use lib.IntN.{ℤ, pos}
-use lib.ListN.{length, take, drop, length-append}
+use lib.ListN.{length, take, length-append}
 use Rattle.rules.specs.Buffers.{part, over}
 use Rattle.rules.specs.Layout.{section, encode}
 use Rattle.rules.proofs.Buffers.{length-part}

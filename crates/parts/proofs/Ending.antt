@@ -13,7 +13,7 @@ use Rattle.rules.specs.declared.Written.the-variants.{Numbers, Refused}
 use Rattle.rules.specs.Buffers.{over, zeros}
 use Rattle.rules.specs.Refusals.{Verdict, given, refused, inForm, numberOf}
 use Rattle.rules.specs.Layout.{Layout, encode}
-use Rattle.rules.specs.Endings.{stepSays, resultAfter, workAfter, Ends}
+use Rattle.rules.specs.Endings.{resultAfter, workAfter, Ends}
 use Rattle.rules.proofs.Refusing.{Refusing}
 use Rattle.rules.proofs.Buffers.{length-zeros}
 use Rattle.tables.specs.Tables.{Only}

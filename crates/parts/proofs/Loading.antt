@@ -10,14 +10,12 @@ use lib.ListN.{length, getD}
 use Rattle.rules.specs.declared.Head.{Head}
 use Rattle.rules.specs.declared.Entries.{Entries}
 use Rattle.rules.specs.Buffers.{part, put}
-use Rattle.rules.specs.Record.{sound, rowsOf, layoutIn}
-use Rattle.rules.proofs.Buffers.{length-part, part-part, part-put-all}
+use Rattle.rules.specs.Record.{sound, layoutIn}
+use Rattle.rules.proofs.Buffers.{length-part, part-put-all}
 use Rattle.cells.specs.View.{code, view}
 use Rattle.cells.proofs.View.{view-getD, view-part}
 use Rattle.tables.specs.Rows.{rowsAt}
 use Rattle.tables.specs.Tables.{tableAt, Only}
-use Rattle.tables.proofs.Rows.{row-number, rows-part}
-use Rattle.tables.proofs.Tables.{table-rows}
 use Rattle.tables.proofs.Only.{only-then, only-wider, only-put, part-outside}
 use Rattle.records.specs.Sections.{Laid}
 use Rattle.records.specs.Judging.{Readable}

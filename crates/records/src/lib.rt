@@ -89,7 +89,7 @@ pub fn over_record(s: &[i32]) -> bool
         return false;
     }
     match cells::sign_at(s, 2) {
-        Sign::Natural(rank) => 4 < rank,
+        Sign::Natural(rank) => rules::RANK_LIMIT < rank,
         Sign::Negative => false,
     }
 }
@@ -127,7 +127,7 @@ fn small_numbers(s: &[i32], a: usize, n: usize) -> bool
     ensures { λ r. ⌜ r ≡ all small (part a n (view (now (s .entry)))) ⌝ }
 {
     for k in 0..n {
-        if 65535 < cells::get(s, a + k) {
+        if rules::COMPONENT_LIMIT < cells::get(s, a + k) {
             return false;
         }
     }
@@ -154,16 +154,16 @@ fn few_entries(h: Head) -> bool
     let rows = h.rows;
     let states = h.states;
     let inputs = h.inputs;
-    if 4 < h.rank {
+    if rules::RANK_LIMIT < h.rank {
         return false;
     }
-    if 128 < rows.count {
+    if rules::ENTRY_LIMIT < rows.count {
         return false;
     }
-    if 128 < states.count {
+    if rules::ENTRY_LIMIT < states.count {
         return false;
     }
-    inputs.count <= 128
+    inputs.count <= rules::ENTRY_LIMIT
 }
 
 // Whether the kind is one of the three, and sparse where there are rows.

@@ -46,11 +46,11 @@ fn all_zero(s: &[i32], n: usize) -> bool {
 // How many numbers at the front of a working buffer are to be zeros after a call.
 fn cleared(answer: Written) -> usize {
     match answer {
-        Written::Numbers(_) => 10812,
+        Written::Numbers(_) => rules::WORK_SIZE,
         Written::Refused(why) => match why {
             Refusal::OverCount => 0,
             Refusal::ShortBuffer => 0,
-            _ => 10812,
+            _ => rules::WORK_SIZE,
         },
     }
 }

@@ -19,8 +19,8 @@ use text::Read;
 fn main() {
     let mut text = [0u8; 65537];
     let mut numbers = [0i32; 32768];
-    let mut result = [0i32; 1802];
-    let mut work = [0i32; 10812];
+    let mut result = [0i32; rules::RESULT_SIZE];
+    let mut work = [0i32; rules::WORK_SIZE];
     let mut out = [0u8; 32768];
     let size = io::read_full(0, &mut text);
     let end = answer(
