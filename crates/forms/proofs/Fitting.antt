@@ -14,7 +14,7 @@ use lib.Signed.{nonNeg}
 use Rattle.rules.specs.declared.Refusal.the-variants.{MadeUnsound, MadeTooLarge}
 use Rattle.rules.specs.declared.Written.{Written}
 use Rattle.rules.specs.declared.Written.the-variants.{Refused}
-use Rattle.rules.specs.Limits.{productLimit}
+use Rattle.rules.specs.Limits.{productLimit, resultSize}
 use Rattle.rules.specs.Lists.{if, all, none, gather, allBelow}
 use Rattle.rules.specs.RowsInOrder.{cmpRows, insert, sorted, increasing}
 use Rattle.rules.specs.Layout.{Layout, encode, distinct, few, alike, wellFormed, withinProduct, nonzeroProduct}
@@ -217,7 +217,7 @@ module _ (s : List ℤ) (n : ℕ) (numbers : List ℤ) {t : Bool} (e : t ≡ all
 
     module _ (size : length numbers ≡ n * length (shapeIn s)) (h : n ≤ 128) {rank : ℕ} (c : rank ≡ length (shapeIn s)) where
       -- there is room for them
-      pub sparse-room : {result : List ℤ} → 1802 ≤ length result → PiecesFit 2 0 n (take (1 + rank - 1) (drop 1 s)) numbers noDeps result
+      pub sparse-room : {result : List ℤ} → resultSize ≤ length result → PiecesFit 2 0 n (take (1 + rank - 1) (drop 1 s)) numbers noDeps result
       sparse-room l =
           let few = extents s j c .few in
           let axes : length (shapeIn s) ≤ 4 = omega arith in

@@ -16,7 +16,7 @@ use Rattle.rules.specs.declared.Section.{Section}
 use Rattle.rules.specs.declared.Section.the-variants.{Whole, Cut}
 use Rattle.rules.specs.declared.Written.{Written}
 use Rattle.rules.specs.declared.Written.the-variants.{Refused}
-use Rattle.rules.specs.Limits.{productLimit}
+use Rattle.rules.specs.Limits.{productLimit, resultSize}
 use Rattle.rules.specs.Lists.{all, gather}
 use Rattle.rules.specs.Buffers.{part}
 use Rattle.rules.specs.RowsInOrder.{sorted, increasing-nil}
@@ -80,7 +80,7 @@ module _ (s : List ℤ) {rank : ℕ} (j : Judged s) (e : rank ≡ length (shapeI
   lent-length = rw (lent-extents, length-map) (sym e)
 
   -- there is room for them
-  pub shape-room : {kind dense : ℕ} {result : List ℤ} → kind ≤ 4 → dense ≤ 4 → 1802 ≤ length result → PiecesFit kind dense 0 (take (1 + rank - 1) (drop 1 s)) [] noDeps result
+  pub shape-room : {kind dense : ℕ} {result : List ℤ} → kind ≤ 4 → dense ≤ 4 → resultSize ≤ length result → PiecesFit kind dense 0 (take (1 + rank - 1) (drop 1 s)) [] noDeps result
   shape-room k d h =
       let x = extents s j e in
       let n = lent-length in
@@ -123,7 +123,7 @@ module _ (rank : ℕ) (h : rank ≤ 4) where
   pub zeros-lent : rank ≡ length (take rank (pos 0 ∷ pos 0 ∷ pos 0 ∷ pos 0 ∷ []))
   zeros-lent = sym zeros-length
 
-  pub zeros-room : {result : List ℤ} → 1802 ≤ length result → PiecesFit 0 rank 0 (take rank (pos 0 ∷ pos 0 ∷ pos 0 ∷ pos 0 ∷ [])) [] noDeps result
+  pub zeros-room : {result : List ℤ} → resultSize ≤ length result → PiecesFit 0 rank 0 (take rank (pos 0 ∷ pos 0 ∷ pos 0 ∷ pos 0 ∷ [])) [] noDeps result
   zeros-room l =
       let n = zeros-length in
       record { kind-small = omega arith; dense-small = omega arith; count-small = omega arith; extents-few = omega arith; room = omega arith }

@@ -10,6 +10,7 @@ use lib.Dec.{eqb}
 use lib.IntN.{ℤ, pos}
 use lib.ListN.{length, take, drop}
 use lib.Seq.{drop-at, length-take-le}
+use Rattle.rules.specs.Limits.{resultSize}
 use Rattle.rules.specs.declared.Head.{Head}
 use Rattle.rules.specs.declared.Written.{Written}
 use Rattle.rules.specs.declared.Written.the-variants.{Numbers}
@@ -72,7 +73,7 @@ module _ {h : Head} {s : List ℤ} (r : SoundRecord h s) where
   deps-end = lies r .end-in
 
   -- there is room for them
-  pub dense-room : {result : List ℤ} → 1802 ≤ length result →
+  pub dense-room : {result : List ℤ} → resultSize ≤ length result →
       PiecesFit 0 (h .rank) 0 (take (3 + h .rank - 3) (drop 3 s)) [] (take (h .inputs .next - h .rows .next) (drop (h .rows .next) s)) result
   unfolding part
   dense-room l =
@@ -119,7 +120,7 @@ module _ {h : Head} {s : List ℤ} (r : SoundRecord h s) where
   rows-long = let b = lies r in let g = r .readable .head in length-part (h .rows .first) (h .rows .next - h .rows .first) s (omega arith)
 
   -- there is room for them
-  pub rows-room : (result : List ℤ) → 1802 ≤ length result → length (take (h .rows .next - h .rows .first) (drop (h .rows .first) s)) ≤ length result
+  pub rows-room : (result : List ℤ) → resultSize ≤ length result → length (take (h .rows .next - h .rows .first) (drop (h .rows .first) s)) ≤ length result
   rows-room result l =
       let b = lies r in
       let n = rows-count in

@@ -10,6 +10,7 @@ use lib.IntN.{ℤ}
 use lib.ListN.{length}
 use mir.Syntax.{w64}
 use mir.Val.{Fits}
+use Rattle.rules.specs.Limits.{resultSize}
 use Rattle.rules.specs.declared.Refusal.{Refusal}
 use Rattle.rules.specs.declared.Written.{Written}
 use Rattle.rules.specs.declared.Written.the-variants.{Refused}
@@ -37,12 +38,12 @@ module _ {A : Type 0} (form : A → List ℤ) (v : Verdict A) where
 
 module _ (n : ℕ) where
   -- the result is too short
-  pub result-short : n < 1802 → shortResult n ≡ true
-  result-short h = lt-ltb n 1802 h
+  pub result-short : n < resultSize → shortResult n ≡ true
+  result-short h = lt-ltb n resultSize h
 
   -- it is long enough
-  pub result-long : 1802 ≤ n → shortResult n ≡ false
-  result-long h = le-ltb n 1802 h
+  pub result-long : resultSize ≤ n → shortResult n ≡ false
+  result-long h = le-ltb n resultSize h
 
 module _ {g : Sign} (z : ℤ) (e : g ≡ signOf z) where
   -- an asked rank by its sign

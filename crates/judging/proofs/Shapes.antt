@@ -8,6 +8,7 @@ use lib.Dec.{eqb}
 use lib.IntN.{ℤ}
 use lib.ListN.{length}
 use lib.Signed.{nonNeg}
+use Rattle.rules.specs.Limits.{resultSize}
 use Rattle.rules.specs.declared.Refusal.{Refusal}
 use Rattle.rules.specs.declared.Refusal.the-variants.{OverCount, ShortBuffer, WrongArgument}
 use Rattle.rules.specs.declared.Written.{Written}
@@ -34,21 +35,21 @@ module _ (s : List ℤ) (size : ℕ) {o : Bool} (e : o ≡ overShape s) where
 
   module _ (f : o ≡ false) where
     -- 2
-    pub room-short : size < 1802 → lowest (shapeReasons s size) ≡ refused (numberOf ShortBuffer)
+    pub room-short : size < resultSize → lowest (shapeReasons s size) ≡ refused (numberOf ShortBuffer)
     unfolding lowest numberOf
-    room-short h = rw (sym e ∙ f, lt-ltb size 1802 h)
+    room-short h = rw (sym e ∙ f, lt-ltb size resultSize h)
 
-    module _ (h : 1802 ≤ size) {g : Bool} (d : g ≡ goodShape s) where
+    module _ (h : resultSize ≤ size) {g : Bool} (d : g ≡ goodShape s) where
       -- 5
       pub shape-wrong : not g ≡ true → lowest (shapeReasons s size) ≡ refused (numberOf WrongArgument)
       unfolding lowest numberOf
-      shape-wrong k = rw (sym e ∙ f, le-ltb size 1802 h, sym d ∙ not-true g k)
+      shape-wrong k = rw (sym e ∙ f, le-ltb size resultSize h, sym d ∙ not-true g k)
 
       -- none of them
       pub shape-good : not g ≡ false → ShapeGood s size
       unfolding lowest
       shape-good k = record {
-        none-holds = rw (sym e ∙ f, le-ltb size 1802 h, sym d ∙ not-false g k);
+        none-holds = rw (sym e ∙ f, le-ltb size resultSize h, sym d ∙ not-false g k);
         shape = shape-judged s e f d k;
         result-long = h;
       }

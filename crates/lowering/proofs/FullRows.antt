@@ -18,7 +18,7 @@ use Rattle.tables.specs.Tables.{tableAt, roomEnd, Fits}
 use Rattle.tables.proofs.Rows.{row-ends, row-of, has-row}
 use Rattle.tables.proofs.Only.{row-outside, has-row-outside}
 use Rattle.tables.proofs.Tables.{table-rows, table-length, fits-rows}
-use Rattle.parts.specs.Parts.{denseAt, layoutAt}
+use Rattle.parts.specs.Parts.{denseAt, layoutAt, statesFrom}
 use Rattle.parts.proofs.Holds.{rank-most, rank-is, shape-length, rows-fit}
 use Rattle.lowering.specs.Lowering.{Axes, lastAxes, withTails, Taken, RowAsked, FullAsked}
 use Rattle.lowering.proofs.Taking.{taken-none, taken-then, taken-stop}
@@ -95,7 +95,7 @@ module _ {at to rank w count size : ℕ} {s : List ℤ} where
 
     module _ (h : i < count) where
       -- where row i ends
-      pub row-ended : at + 8 + i * w + w ≤ at + 520
+      pub row-ended : at + 8 + i * w + w ≤ at + statesFrom
       row-ended =
           let small : count * w ≤ 128 * w = mul-le-mul-right w (g .count-most) in
           let n = g .narrow in
