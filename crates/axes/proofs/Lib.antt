@@ -1,3 +1,4 @@
+-- Laws on extents in a slice: their products, rows below them, indices over them.
 pub mod Products
 pub mod Below
 pub mod Indices

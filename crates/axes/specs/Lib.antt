@@ -1,1 +1,2 @@
+-- What the contracts of axes cite.
 pub mod Extents

@@ -1,6 +1,7 @@
 -- `rows_fit`: natural, inside the shape and all different, in turn.
 use native.Mathlib.Omega.{arith}
 use borrow.Author.Needs.{needs}
+use denote.Ref.{now}
 use Rattle.shapes.proofs.Judging.{shape-extents}
 use Rattle.forms.proofs.Fitting.{rows-long, rows-there, rows-within, fits}
 use Rattle.forms.proofs.rows.rows_fit.Statement.{statement}
@@ -21,9 +22,10 @@ returns-2 c = search (needs, fits)
 rows-below-requires : tie.Need-rows-below-requires
 rows-below-requires c κs =
     let axes = c .before .before .before in
-    let given = axes .before .pre in
+    let start = axes .before in
     let wide = axes .rank .ensures .0 in
-    (omega (arith, rows-long _ _ _ (given .1) wide), shape-extents _ (given .0) wide .room)
+    let long = rows-long (now (start .args .shape)) (start .args .n) (now (start .args .numbers)) (start .pre .1) wide in
+    (omega arith, shape-extents _ (start .pre .0) wide .room)
 
 returns-3 : tie.Need-returns-3
 returns-3 c = search (needs, fits)

@@ -10,6 +10,7 @@ use Rattle.rules.specs.Lists.{none}
 use Rattle.rules.specs.Refusals.{numberOf}
 use Rattle.rules.specs.Shapes.{commonShape, shapesAgree, broadcastShapes}
 use Rattle.shapes.specs.Judged.{shapesOf}
+use Rattle.shapes.proofs.Common.{common-low}
 use Rattle.judging.proofs.Judged.{judged, told-not-true, told-not-false}
 use Rattle.shape_calls.proofs.Listed.{none-listed, some-listed, common-within, common-length}
 use Rattle.shape_calls.proofs.Tuples.{tuple-same, tuple-given}
@@ -61,7 +62,7 @@ common-shape-requires : tie.Need-common-shape-requires
 common-shape-requires c κs = search needs
 
 within-product-requires : tie.Need-within-product-requires
-within-product-requires c κs = search needs
+within-product-requires c κs = common-low _ _ (c .before .before .before .before .before .pre) (c .common-shape .ensures)
 
 no-tuple-requires-3 : tie.Need-no-tuple-requires-3
 no-tuple-requires-3 c κs = search needs
