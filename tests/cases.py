@@ -1,6 +1,6 @@
-"""Requests made by hand for the fixed list: those at the limits, and the tests of the Rust's own that the rules reach.
+"""Requests made by hand: those at the limits, those with two faults, and the tests of the Rust's own that the rules reach.
 
-All operations have theirs here; `tests/sample` takes those of the operations that the port has.
+All operations have theirs here; `tests/sample` takes those of the operations that the port has into the fixed list.
 """
 from itertools import product
 
@@ -90,6 +90,26 @@ def limits_of_others():
         yield from [line(20, dense([1]), len(shape), *BUFFERS), line(19, dense([1]), [len(shape), *shape], *BUFFERS)]
 
 
+def two_faults():
+    """Calls with two reasons to be refused at once, for every operation: the lower number is given."""
+    high, cut, scalar, unordered, empty = [0, 0, 5], [], dense([]), sparse([2], [(1,), (0,)]), [0, 0]
+    yield from [line(1, [1, -1, 5], 2), line(2, [5], [-1]), line(2, [-1], [5]), line(3, [-1], [5]), line(4, -1, [5]), line(4, -1, [1, 0])]
+    yield from [line(7, high, [-1]), line(7, cut, [-1]), line(7, unordered, [-1])]
+    yield from [line(op, high, cut) for op in (10, 11)] + [line(op, cut, high) for op in (10, 11)]
+    yield from [line(op, s, 0) for op in (12, 18) for s in (high, cut)]
+    yield from [line(13, rank, 0) for rank in (5, -1)] + [line(op, shape, 0) for op in (15, 16) for shape in ([5], [-1])]
+    yield from [line(17, [5], -1, [], 0), line(17, [-1], -1, [], 0), line(17, [1, 2], -1, [7], 1802)]
+    for buffers in (empty, BUFFERS):
+        yield from [line(19, s, shape, *buffers) for s, shape in ((high, [-1]), (cut, [5]), (cut, [-1]), (scalar, [-1]))]
+        yield from [line(20, s, rank, *buffers) for s, rank in ((high, -1), (cut, 5), (cut, -1), (scalar, -1))]
+        yield from [line(op, a, b, *buffers) for op in (22, 23) for a, b in ((high, cut), (cut, scalar), (scalar, cut), (unordered, scalar))]
+        yield from [line(24, s, *buffers) for s in (high, cut, scalar)]
+        yield from [line(25, s, [9], *buffers) for s in (high, cut, scalar)]
+        yield from [line(26, s, n, 43, *buffers) for s, n in ((cut, 17), (cut, 1), (high + cut, 2), (scalar, 0))]
+        yield from [line(27, s, n, rank, *buffers) for s, n, rank in (([0, 2], 17, 1), ([0, 2], 1, 5), ([0, 2], 1, 1), ([2] + dense([1]), 1, 0))]
+        yield from [line(28, a, b, -1, 0, *buffers) for a, b in ((high, cut), (cut, scalar), (scalar, cut), (scalar, scalar))]
+
+
 def tests_of_the_rust():
     """What the tests of layout.rs ask; those of forms that are not carried over are left out."""
     cube = [2, 3, 4]
@@ -125,5 +145,5 @@ def ranges_of_the_rust():
 
 def all_cases():
     """Every request made by hand, once."""
-    parts = (limits_of_records(), limits_of_pairs(), limits_of_others(), tests_of_the_rust(), ranges_of_the_rust())
+    parts = (limits_of_records(), limits_of_pairs(), limits_of_others(), two_faults(), tests_of_the_rust(), ranges_of_the_rust())
     return list(dict.fromkeys(request for part in parts for request in part))

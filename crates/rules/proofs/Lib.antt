@@ -7,7 +7,7 @@
 --     Before, Alike, Held, Finding, Found, Counting                what is held, found and counted
 --     Made, Once, Lowering, Listed, Unions, Low                    the union of two sound layouts by plain cases
 --     Determined                                                   two outcomes that a contract allows are equal
---     WorkedByHand                                                 the table
+--     WorkedByHand, Examples                                       the table, and examples of every operation
 pub mod Order
 pub mod Same
 pub mod Sets
@@ -42,3 +42,4 @@ pub mod Unions
 pub mod Low
 pub mod Determined
 pub mod WorkedByHand
+mod Examples
