@@ -27,14 +27,38 @@ ORDERINGS = {'-1': 'Less', '0': 'Equal', '1': 'Greater'}
 WORDS = {'Refusals': ['Verdict', 'given', 'refused', 'inForm'], 'Endings': ['Lookup', 'found', 'nothing']}
 
 
-def unfoldables():
-    """The definitions of the rules that stay shut until they are named, by module."""
-    found = {}
+def specs():
+    """The text of each file of the rules' definitions."""
     for name in sorted(os.listdir(SPECS)):
-        if name != 'Lib.antt':
-            with open(os.path.join(SPECS, name)) as file:
-                found[name[:-5]] = re.findall(r'^unfoldable pub (\S+)', file.read(), re.M)
+        with open(os.path.join(SPECS, name)) as file:
+            yield name[:-5], file.read()
+
+
+def unfoldables():
+    """The definitions that stay shut until they are named, by module."""
+    found = {module: re.findall(r'^unfoldable pub (\S+)', text, re.M) for module, text in specs()}
     return {module: names for module, names in found.items() if names}
+
+
+def mentions():
+    """The words of each definition."""
+    found = {}
+    for _, text in specs():
+        for block in text.split('\n\n'):
+            for name in re.findall(r'^(?:unfoldable |abbrev )?pub (\S+) :', block, re.M):
+                found.setdefault(name, set()).update(re.findall(r'[^\s(){}∷;,]+', block))
+    return found
+
+
+def reached(names, words):
+    """The names of definitions that some lead to."""
+    seen, todo = set(), list(names)
+    while todo:
+        name = todo.pop()
+        if name in words and name not in seen:
+            seen.add(name)
+            todo += words[name]
+    return seen
 
 
 def asked_name(op):
@@ -52,18 +76,18 @@ def words_of_answers(library):
 
 def asked(library):
     """The calls with all that they compute with unfolded, for a file that finds the rules' specs under a name."""
-    modules = unfoldables()
-    lines = words_of_answers(library)
+    modules, words, lines = unfoldables(), mentions(), words_of_answers(library)
     for module in sorted(set(modules) | set(WORDS)):
         lines.append('use %s.%s.{%s}' % (library, module, ', '.join(modules.get(module, []) + WORDS.get(module, []))))
     lines += ['', '-- numbers of a slice, none of them negative', 'abbrev pub nums : List ℕ → List ℤ', 'nums l = map pos l', '']
-    names = ' '.join(name for module in modules.values() for name in module)
     for op, (kinds, name, form) in CALLS.items():
+        inside = reached([name, 'encode'] if form == 'record' else [name], words)
         types = [{'S': 'List ℤ', 'z': 'ℤ'}.get(k, 'ℕ') for k in kinds]
         parameters = ' '.join('abcdef'[:len(kinds)])
         body = '%s %s' % (name, parameters)
         body = 'inForm encode (%s)' % body if form == 'record' else 'given (%s)' % body if op in NEVER_REFUSED else body
-        lines += ['unfoldable pub %s : %s → Verdict (%s)' % (asked_name(op), ' → '.join(types), TYPES[form]), 'unfolding ' + names,
+        lines += ['unfoldable pub %s : %s → Verdict (%s)' % (asked_name(op), ' → '.join(types), TYPES[form]),
+                  'unfolding ' + ' '.join(n for names in modules.values() for n in names if n in inside),
                   '%s %s = %s' % (asked_name(op), parameters, body), '']
     return lines
 

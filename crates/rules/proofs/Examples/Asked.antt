@@ -34,117 +34,117 @@ abbrev pub nums : List ℕ → List ℤ
 nums l = map pos l
 
 unfoldable pub askBroadcastShapes : List ℤ → ℤ → Verdict (List ℕ)
-unfolding upTo goodComponents ruleOf combine stretchAll foldOnto foldBack endOfBroadcast broadcast broadcastCall part over put startAt joinDense firstD lastAgree agree movedBy joinSparse joinOther joinedDeps joinBlocks concatenate blockOf concatenateCall shortenedDeps contracted contractLastAxis contractLastAxisCall nnz minRankOf eqNonzeros eqNonzerosAndDeps toDense denseIfFull dense diagonal sparse toDataLayout nnzCall minRankCall eqNonzerosCall eqNonzerosAndDepsCall toDenseCall toDataLayoutCall newEmptyCall newScalarCall denseCall diagonalCall sparseCall onIndex held filterDeps barsFilter resultAfter workAfter cutDeps filterDepsFrom filterDepsFromCall withDense intersectOfRows intersect intersectCall withinProduct alike wellFormed withinSizes soundLayout made encode all any keep gather none from product sum largest same sameRows allBelow with fitTo readIndex placeFrom placeOf lookup findNnzIndexCall repeats isPermutation movedTo moved permuted permute permuteCall ravelIndex unravel unravelIndex ravelIndexCall unravelIndexCall cmpIndexCall entriesFrom sectionAt walk natural rowsOf entriesOf layoutBy layoutIn sound ordered row rowPlace behindRecord behindShape endToEnd listCount shapeIn goodShape blockAt behindBlock blocksIn numberOf lowest positions removedRows removedDeps listsRow removeDenseAxes expanded lowered cmpRows increasing insert sorted sortedOnto extents commonShape shapesAgree broadcastShapes canBroadcastTo broadcastShapesCall canBroadcastToCall sharedAxesFit stretchedAxes everyValue takeAll stretchRows stretchDeps stretched broadcastToShape broadcastToRank broadcastToShapeCall broadcastToRankCall unionOfRows union unionCall
+unfolding upTo combine stretchAll foldOnto foldBack endOfBroadcast broadcast part over put firstD lastAgree agree eqNonzeros toDense denseIfFull dense diagonal sparse onIndex held filterDeps barsFilter withDense intersectOfRows intersect withinProduct alike wellFormed withinSizes soundLayout made all any keep gather none from product largest same sameRows allBelow with fitTo entriesFrom sectionAt walk natural rowsOf entriesOf layoutBy sound row behindShape endToEnd listCount shapeIn goodShape lowest positions removedRows removedDeps listsRow removeDenseAxes expanded lowered cmpRows increasing insert sorted sortedOnto extents commonShape shapesAgree broadcastShapes broadcastShapesCall sharedAxesFit stretchedAxes everyValue takeAll stretchRows stretchDeps stretched broadcastToShape unionOfRows union
 askBroadcastShapes a b = broadcastShapesCall a b
 
 unfoldable pub askCanBroadcastTo : List ℤ → List ℤ → Verdict (Bool)
-unfolding upTo goodComponents ruleOf combine stretchAll foldOnto foldBack endOfBroadcast broadcast broadcastCall part over put startAt joinDense firstD lastAgree agree movedBy joinSparse joinOther joinedDeps joinBlocks concatenate blockOf concatenateCall shortenedDeps contracted contractLastAxis contractLastAxisCall nnz minRankOf eqNonzeros eqNonzerosAndDeps toDense denseIfFull dense diagonal sparse toDataLayout nnzCall minRankCall eqNonzerosCall eqNonzerosAndDepsCall toDenseCall toDataLayoutCall newEmptyCall newScalarCall denseCall diagonalCall sparseCall onIndex held filterDeps barsFilter resultAfter workAfter cutDeps filterDepsFrom filterDepsFromCall withDense intersectOfRows intersect intersectCall withinProduct alike wellFormed withinSizes soundLayout made encode all any keep gather none from product sum largest same sameRows allBelow with fitTo readIndex placeFrom placeOf lookup findNnzIndexCall repeats isPermutation movedTo moved permuted permute permuteCall ravelIndex unravel unravelIndex ravelIndexCall unravelIndexCall cmpIndexCall entriesFrom sectionAt walk natural rowsOf entriesOf layoutBy layoutIn sound ordered row rowPlace behindRecord behindShape endToEnd listCount shapeIn goodShape blockAt behindBlock blocksIn numberOf lowest positions removedRows removedDeps listsRow removeDenseAxes expanded lowered cmpRows increasing insert sorted sortedOnto extents commonShape shapesAgree broadcastShapes canBroadcastTo broadcastShapesCall canBroadcastToCall sharedAxesFit stretchedAxes everyValue takeAll stretchRows stretchDeps stretched broadcastToShape broadcastToRank broadcastToShapeCall broadcastToRankCall unionOfRows union unionCall
+unfolding part over put dense diagonal sparse withinProduct alike wellFormed withinSizes soundLayout made all any keep gather none from product largest same allBelow with entriesFrom sectionAt walk natural rowsOf entriesOf layoutBy sound row shapeIn goodShape lowest cmpRows increasing insert sorted extents commonShape shapesAgree canBroadcastTo canBroadcastToCall
 askCanBroadcastTo a b = canBroadcastToCall a b
 
 unfoldable pub askRavelIndex : List ℤ → List ℤ → Verdict (ℕ)
-unfolding upTo goodComponents ruleOf combine stretchAll foldOnto foldBack endOfBroadcast broadcast broadcastCall part over put startAt joinDense firstD lastAgree agree movedBy joinSparse joinOther joinedDeps joinBlocks concatenate blockOf concatenateCall shortenedDeps contracted contractLastAxis contractLastAxisCall nnz minRankOf eqNonzeros eqNonzerosAndDeps toDense denseIfFull dense diagonal sparse toDataLayout nnzCall minRankCall eqNonzerosCall eqNonzerosAndDepsCall toDenseCall toDataLayoutCall newEmptyCall newScalarCall denseCall diagonalCall sparseCall onIndex held filterDeps barsFilter resultAfter workAfter cutDeps filterDepsFrom filterDepsFromCall withDense intersectOfRows intersect intersectCall withinProduct alike wellFormed withinSizes soundLayout made encode all any keep gather none from product sum largest same sameRows allBelow with fitTo readIndex placeFrom placeOf lookup findNnzIndexCall repeats isPermutation movedTo moved permuted permute permuteCall ravelIndex unravel unravelIndex ravelIndexCall unravelIndexCall cmpIndexCall entriesFrom sectionAt walk natural rowsOf entriesOf layoutBy layoutIn sound ordered row rowPlace behindRecord behindShape endToEnd listCount shapeIn goodShape blockAt behindBlock blocksIn numberOf lowest positions removedRows removedDeps listsRow removeDenseAxes expanded lowered cmpRows increasing insert sorted sortedOnto extents commonShape shapesAgree broadcastShapes canBroadcastTo broadcastShapesCall canBroadcastToCall sharedAxesFit stretchedAxes everyValue takeAll stretchRows stretchDeps stretched broadcastToShape broadcastToRank broadcastToShapeCall broadcastToRankCall unionOfRows union unionCall
+unfolding upTo goodComponents part over put dense diagonal sparse withinProduct alike wellFormed withinSizes soundLayout made all keep gather none from product sum same allBelow with ravelIndex ravelIndexCall entriesFrom sectionAt walk natural rowsOf entriesOf layoutBy sound row shapeIn goodShape lowest cmpRows increasing insert sorted extents
 askRavelIndex a b = ravelIndexCall a b
 
 unfoldable pub askUnravelIndex : ℤ → List ℤ → Verdict (List ℕ)
-unfolding upTo goodComponents ruleOf combine stretchAll foldOnto foldBack endOfBroadcast broadcast broadcastCall part over put startAt joinDense firstD lastAgree agree movedBy joinSparse joinOther joinedDeps joinBlocks concatenate blockOf concatenateCall shortenedDeps contracted contractLastAxis contractLastAxisCall nnz minRankOf eqNonzeros eqNonzerosAndDeps toDense denseIfFull dense diagonal sparse toDataLayout nnzCall minRankCall eqNonzerosCall eqNonzerosAndDepsCall toDenseCall toDataLayoutCall newEmptyCall newScalarCall denseCall diagonalCall sparseCall onIndex held filterDeps barsFilter resultAfter workAfter cutDeps filterDepsFrom filterDepsFromCall withDense intersectOfRows intersect intersectCall withinProduct alike wellFormed withinSizes soundLayout made encode all any keep gather none from product sum largest same sameRows allBelow with fitTo readIndex placeFrom placeOf lookup findNnzIndexCall repeats isPermutation movedTo moved permuted permute permuteCall ravelIndex unravel unravelIndex ravelIndexCall unravelIndexCall cmpIndexCall entriesFrom sectionAt walk natural rowsOf entriesOf layoutBy layoutIn sound ordered row rowPlace behindRecord behindShape endToEnd listCount shapeIn goodShape blockAt behindBlock blocksIn numberOf lowest positions removedRows removedDeps listsRow removeDenseAxes expanded lowered cmpRows increasing insert sorted sortedOnto extents commonShape shapesAgree broadcastShapes canBroadcastTo broadcastShapesCall canBroadcastToCall sharedAxesFit stretchedAxes everyValue takeAll stretchRows stretchDeps stretched broadcastToShape broadcastToRank broadcastToShapeCall broadcastToRankCall unionOfRows union unionCall
+unfolding part over put dense diagonal sparse withinProduct alike wellFormed withinSizes soundLayout made all any keep gather none from product same allBelow with unravel unravelIndex unravelIndexCall entriesFrom sectionAt walk natural rowsOf entriesOf layoutBy sound row shapeIn goodShape lowest cmpRows increasing insert sorted extents
 askUnravelIndex a b = unravelIndexCall a b
 
 unfoldable pub askCmpIndex : List ℤ → List ℤ → Verdict (Ordering)
-unfolding upTo goodComponents ruleOf combine stretchAll foldOnto foldBack endOfBroadcast broadcast broadcastCall part over put startAt joinDense firstD lastAgree agree movedBy joinSparse joinOther joinedDeps joinBlocks concatenate blockOf concatenateCall shortenedDeps contracted contractLastAxis contractLastAxisCall nnz minRankOf eqNonzeros eqNonzerosAndDeps toDense denseIfFull dense diagonal sparse toDataLayout nnzCall minRankCall eqNonzerosCall eqNonzerosAndDepsCall toDenseCall toDataLayoutCall newEmptyCall newScalarCall denseCall diagonalCall sparseCall onIndex held filterDeps barsFilter resultAfter workAfter cutDeps filterDepsFrom filterDepsFromCall withDense intersectOfRows intersect intersectCall withinProduct alike wellFormed withinSizes soundLayout made encode all any keep gather none from product sum largest same sameRows allBelow with fitTo readIndex placeFrom placeOf lookup findNnzIndexCall repeats isPermutation movedTo moved permuted permute permuteCall ravelIndex unravel unravelIndex ravelIndexCall unravelIndexCall cmpIndexCall entriesFrom sectionAt walk natural rowsOf entriesOf layoutBy layoutIn sound ordered row rowPlace behindRecord behindShape endToEnd listCount shapeIn goodShape blockAt behindBlock blocksIn numberOf lowest positions removedRows removedDeps listsRow removeDenseAxes expanded lowered cmpRows increasing insert sorted sortedOnto extents commonShape shapesAgree broadcastShapes canBroadcastTo broadcastShapesCall canBroadcastToCall sharedAxesFit stretchedAxes everyValue takeAll stretchRows stretchDeps stretched broadcastToShape broadcastToRank broadcastToShapeCall broadcastToRankCall unionOfRows union unionCall
+unfolding upTo goodComponents part over put dense diagonal sparse withinProduct alike wellFormed withinSizes soundLayout made all keep gather none from product same allBelow with cmpIndexCall entriesFrom sectionAt walk natural rowsOf entriesOf layoutBy sound row lowest cmpRows increasing insert sorted extents
 askCmpIndex a b = cmpIndexCall a b
 
 unfoldable pub askFindNnzIndex : List ℤ → List ℤ → Verdict (Lookup)
-unfolding upTo goodComponents ruleOf combine stretchAll foldOnto foldBack endOfBroadcast broadcast broadcastCall part over put startAt joinDense firstD lastAgree agree movedBy joinSparse joinOther joinedDeps joinBlocks concatenate blockOf concatenateCall shortenedDeps contracted contractLastAxis contractLastAxisCall nnz minRankOf eqNonzeros eqNonzerosAndDeps toDense denseIfFull dense diagonal sparse toDataLayout nnzCall minRankCall eqNonzerosCall eqNonzerosAndDepsCall toDenseCall toDataLayoutCall newEmptyCall newScalarCall denseCall diagonalCall sparseCall onIndex held filterDeps barsFilter resultAfter workAfter cutDeps filterDepsFrom filterDepsFromCall withDense intersectOfRows intersect intersectCall withinProduct alike wellFormed withinSizes soundLayout made encode all any keep gather none from product sum largest same sameRows allBelow with fitTo readIndex placeFrom placeOf lookup findNnzIndexCall repeats isPermutation movedTo moved permuted permute permuteCall ravelIndex unravel unravelIndex ravelIndexCall unravelIndexCall cmpIndexCall entriesFrom sectionAt walk natural rowsOf entriesOf layoutBy layoutIn sound ordered row rowPlace behindRecord behindShape endToEnd listCount shapeIn goodShape blockAt behindBlock blocksIn numberOf lowest positions removedRows removedDeps listsRow removeDenseAxes expanded lowered cmpRows increasing insert sorted sortedOnto extents commonShape shapesAgree broadcastShapes canBroadcastTo broadcastShapesCall canBroadcastToCall sharedAxesFit stretchedAxes everyValue takeAll stretchRows stretchDeps stretched broadcastToShape broadcastToRank broadcastToShapeCall broadcastToRankCall unionOfRows union unionCall
+unfolding upTo goodComponents part over put dense diagonal sparse withinProduct alike wellFormed withinSizes soundLayout made all any keep gather none from product sum same allBelow with readIndex placeFrom placeOf lookup findNnzIndexCall ravelIndex entriesFrom sectionAt walk natural rowsOf entriesOf layoutBy layoutIn sound ordered row lowest cmpRows increasing insert sorted extents
 askFindNnzIndex a b = findNnzIndexCall a b
 
 unfoldable pub askNnz : List ℤ → Verdict (ℕ)
-unfolding upTo goodComponents ruleOf combine stretchAll foldOnto foldBack endOfBroadcast broadcast broadcastCall part over put startAt joinDense firstD lastAgree agree movedBy joinSparse joinOther joinedDeps joinBlocks concatenate blockOf concatenateCall shortenedDeps contracted contractLastAxis contractLastAxisCall nnz minRankOf eqNonzeros eqNonzerosAndDeps toDense denseIfFull dense diagonal sparse toDataLayout nnzCall minRankCall eqNonzerosCall eqNonzerosAndDepsCall toDenseCall toDataLayoutCall newEmptyCall newScalarCall denseCall diagonalCall sparseCall onIndex held filterDeps barsFilter resultAfter workAfter cutDeps filterDepsFrom filterDepsFromCall withDense intersectOfRows intersect intersectCall withinProduct alike wellFormed withinSizes soundLayout made encode all any keep gather none from product sum largest same sameRows allBelow with fitTo readIndex placeFrom placeOf lookup findNnzIndexCall repeats isPermutation movedTo moved permuted permute permuteCall ravelIndex unravel unravelIndex ravelIndexCall unravelIndexCall cmpIndexCall entriesFrom sectionAt walk natural rowsOf entriesOf layoutBy layoutIn sound ordered row rowPlace behindRecord behindShape endToEnd listCount shapeIn goodShape blockAt behindBlock blocksIn numberOf lowest positions removedRows removedDeps listsRow removeDenseAxes expanded lowered cmpRows increasing insert sorted sortedOnto extents commonShape shapesAgree broadcastShapes canBroadcastTo broadcastShapesCall canBroadcastToCall sharedAxesFit stretchedAxes everyValue takeAll stretchRows stretchDeps stretched broadcastToShape broadcastToRank broadcastToShapeCall broadcastToRankCall unionOfRows union unionCall
+unfolding part over put nnz dense diagonal sparse nnzCall withinProduct alike wellFormed withinSizes soundLayout made all keep gather none from product same allBelow with entriesFrom sectionAt walk natural rowsOf entriesOf layoutBy layoutIn sound row lowest positions cmpRows increasing insert sorted extents
 askNnz a = nnzCall a
 
 unfoldable pub askMinRank : List ℤ → Verdict (ℕ)
-unfolding upTo goodComponents ruleOf combine stretchAll foldOnto foldBack endOfBroadcast broadcast broadcastCall part over put startAt joinDense firstD lastAgree agree movedBy joinSparse joinOther joinedDeps joinBlocks concatenate blockOf concatenateCall shortenedDeps contracted contractLastAxis contractLastAxisCall nnz minRankOf eqNonzeros eqNonzerosAndDeps toDense denseIfFull dense diagonal sparse toDataLayout nnzCall minRankCall eqNonzerosCall eqNonzerosAndDepsCall toDenseCall toDataLayoutCall newEmptyCall newScalarCall denseCall diagonalCall sparseCall onIndex held filterDeps barsFilter resultAfter workAfter cutDeps filterDepsFrom filterDepsFromCall withDense intersectOfRows intersect intersectCall withinProduct alike wellFormed withinSizes soundLayout made encode all any keep gather none from product sum largest same sameRows allBelow with fitTo readIndex placeFrom placeOf lookup findNnzIndexCall repeats isPermutation movedTo moved permuted permute permuteCall ravelIndex unravel unravelIndex ravelIndexCall unravelIndexCall cmpIndexCall entriesFrom sectionAt walk natural rowsOf entriesOf layoutBy layoutIn sound ordered row rowPlace behindRecord behindShape endToEnd listCount shapeIn goodShape blockAt behindBlock blocksIn numberOf lowest positions removedRows removedDeps listsRow removeDenseAxes expanded lowered cmpRows increasing insert sorted sortedOnto extents commonShape shapesAgree broadcastShapes canBroadcastTo broadcastShapesCall canBroadcastToCall sharedAxesFit stretchedAxes everyValue takeAll stretchRows stretchDeps stretched broadcastToShape broadcastToRank broadcastToShapeCall broadcastToRankCall unionOfRows union unionCall
+unfolding part over put minRankOf dense diagonal sparse minRankCall withinProduct alike wellFormed withinSizes soundLayout made all keep gather none from product same allBelow with entriesFrom sectionAt walk natural rowsOf entriesOf layoutBy layoutIn sound row lowest cmpRows increasing insert sorted extents
 askMinRank a = minRankCall a
 
 unfoldable pub askEqNonzeros : List ℤ → List ℤ → Verdict (Bool)
-unfolding upTo goodComponents ruleOf combine stretchAll foldOnto foldBack endOfBroadcast broadcast broadcastCall part over put startAt joinDense firstD lastAgree agree movedBy joinSparse joinOther joinedDeps joinBlocks concatenate blockOf concatenateCall shortenedDeps contracted contractLastAxis contractLastAxisCall nnz minRankOf eqNonzeros eqNonzerosAndDeps toDense denseIfFull dense diagonal sparse toDataLayout nnzCall minRankCall eqNonzerosCall eqNonzerosAndDepsCall toDenseCall toDataLayoutCall newEmptyCall newScalarCall denseCall diagonalCall sparseCall onIndex held filterDeps barsFilter resultAfter workAfter cutDeps filterDepsFrom filterDepsFromCall withDense intersectOfRows intersect intersectCall withinProduct alike wellFormed withinSizes soundLayout made encode all any keep gather none from product sum largest same sameRows allBelow with fitTo readIndex placeFrom placeOf lookup findNnzIndexCall repeats isPermutation movedTo moved permuted permute permuteCall ravelIndex unravel unravelIndex ravelIndexCall unravelIndexCall cmpIndexCall entriesFrom sectionAt walk natural rowsOf entriesOf layoutBy layoutIn sound ordered row rowPlace behindRecord behindShape endToEnd listCount shapeIn goodShape blockAt behindBlock blocksIn numberOf lowest positions removedRows removedDeps listsRow removeDenseAxes expanded lowered cmpRows increasing insert sorted sortedOnto extents commonShape shapesAgree broadcastShapes canBroadcastTo broadcastShapesCall canBroadcastToCall sharedAxesFit stretchedAxes everyValue takeAll stretchRows stretchDeps stretched broadcastToShape broadcastToRank broadcastToShapeCall broadcastToRankCall unionOfRows union unionCall
+unfolding part over put eqNonzeros dense diagonal sparse eqNonzerosCall withinProduct alike wellFormed withinSizes soundLayout made all keep gather none from product same sameRows allBelow with entriesFrom sectionAt walk natural rowsOf entriesOf layoutBy layoutIn sound row lowest cmpRows increasing insert sorted extents
 askEqNonzeros a b = eqNonzerosCall a b
 
 unfoldable pub askEqNonzerosAndDeps : List ℤ → List ℤ → Verdict (Bool)
-unfolding upTo goodComponents ruleOf combine stretchAll foldOnto foldBack endOfBroadcast broadcast broadcastCall part over put startAt joinDense firstD lastAgree agree movedBy joinSparse joinOther joinedDeps joinBlocks concatenate blockOf concatenateCall shortenedDeps contracted contractLastAxis contractLastAxisCall nnz minRankOf eqNonzeros eqNonzerosAndDeps toDense denseIfFull dense diagonal sparse toDataLayout nnzCall minRankCall eqNonzerosCall eqNonzerosAndDepsCall toDenseCall toDataLayoutCall newEmptyCall newScalarCall denseCall diagonalCall sparseCall onIndex held filterDeps barsFilter resultAfter workAfter cutDeps filterDepsFrom filterDepsFromCall withDense intersectOfRows intersect intersectCall withinProduct alike wellFormed withinSizes soundLayout made encode all any keep gather none from product sum largest same sameRows allBelow with fitTo readIndex placeFrom placeOf lookup findNnzIndexCall repeats isPermutation movedTo moved permuted permute permuteCall ravelIndex unravel unravelIndex ravelIndexCall unravelIndexCall cmpIndexCall entriesFrom sectionAt walk natural rowsOf entriesOf layoutBy layoutIn sound ordered row rowPlace behindRecord behindShape endToEnd listCount shapeIn goodShape blockAt behindBlock blocksIn numberOf lowest positions removedRows removedDeps listsRow removeDenseAxes expanded lowered cmpRows increasing insert sorted sortedOnto extents commonShape shapesAgree broadcastShapes canBroadcastTo broadcastShapesCall canBroadcastToCall sharedAxesFit stretchedAxes everyValue takeAll stretchRows stretchDeps stretched broadcastToShape broadcastToRank broadcastToShapeCall broadcastToRankCall unionOfRows union unionCall
+unfolding part over put eqNonzeros eqNonzerosAndDeps dense diagonal sparse eqNonzerosAndDepsCall withinProduct alike wellFormed withinSizes soundLayout made all keep gather none from product same sameRows allBelow with entriesFrom sectionAt walk natural rowsOf entriesOf layoutBy layoutIn sound row lowest cmpRows increasing insert sorted extents
 askEqNonzerosAndDeps a b = eqNonzerosAndDepsCall a b
 
 unfoldable pub askToDense : List ℤ → ℕ → Verdict (List ℤ)
-unfolding upTo goodComponents ruleOf combine stretchAll foldOnto foldBack endOfBroadcast broadcast broadcastCall part over put startAt joinDense firstD lastAgree agree movedBy joinSparse joinOther joinedDeps joinBlocks concatenate blockOf concatenateCall shortenedDeps contracted contractLastAxis contractLastAxisCall nnz minRankOf eqNonzeros eqNonzerosAndDeps toDense denseIfFull dense diagonal sparse toDataLayout nnzCall minRankCall eqNonzerosCall eqNonzerosAndDepsCall toDenseCall toDataLayoutCall newEmptyCall newScalarCall denseCall diagonalCall sparseCall onIndex held filterDeps barsFilter resultAfter workAfter cutDeps filterDepsFrom filterDepsFromCall withDense intersectOfRows intersect intersectCall withinProduct alike wellFormed withinSizes soundLayout made encode all any keep gather none from product sum largest same sameRows allBelow with fitTo readIndex placeFrom placeOf lookup findNnzIndexCall repeats isPermutation movedTo moved permuted permute permuteCall ravelIndex unravel unravelIndex ravelIndexCall unravelIndexCall cmpIndexCall entriesFrom sectionAt walk natural rowsOf entriesOf layoutBy layoutIn sound ordered row rowPlace behindRecord behindShape endToEnd listCount shapeIn goodShape blockAt behindBlock blocksIn numberOf lowest positions removedRows removedDeps listsRow removeDenseAxes expanded lowered cmpRows increasing insert sorted sortedOnto extents commonShape shapesAgree broadcastShapes canBroadcastTo broadcastShapesCall canBroadcastToCall sharedAxesFit stretchedAxes everyValue takeAll stretchRows stretchDeps stretched broadcastToShape broadcastToRank broadcastToShapeCall broadcastToRankCall unionOfRows union unionCall
+unfolding part over put toDense dense diagonal sparse toDenseCall withinProduct alike wellFormed withinSizes soundLayout made encode all keep gather none from product same allBelow with entriesFrom sectionAt walk natural rowsOf entriesOf layoutBy layoutIn sound row lowest cmpRows increasing insert sorted extents
 askToDense a b = inForm encode (toDenseCall a b)
 
 unfoldable pub askNewEmpty : ℤ → ℕ → Verdict (List ℤ)
-unfolding upTo goodComponents ruleOf combine stretchAll foldOnto foldBack endOfBroadcast broadcast broadcastCall part over put startAt joinDense firstD lastAgree agree movedBy joinSparse joinOther joinedDeps joinBlocks concatenate blockOf concatenateCall shortenedDeps contracted contractLastAxis contractLastAxisCall nnz minRankOf eqNonzeros eqNonzerosAndDeps toDense denseIfFull dense diagonal sparse toDataLayout nnzCall minRankCall eqNonzerosCall eqNonzerosAndDepsCall toDenseCall toDataLayoutCall newEmptyCall newScalarCall denseCall diagonalCall sparseCall onIndex held filterDeps barsFilter resultAfter workAfter cutDeps filterDepsFrom filterDepsFromCall withDense intersectOfRows intersect intersectCall withinProduct alike wellFormed withinSizes soundLayout made encode all any keep gather none from product sum largest same sameRows allBelow with fitTo readIndex placeFrom placeOf lookup findNnzIndexCall repeats isPermutation movedTo moved permuted permute permuteCall ravelIndex unravel unravelIndex ravelIndexCall unravelIndexCall cmpIndexCall entriesFrom sectionAt walk natural rowsOf entriesOf layoutBy layoutIn sound ordered row rowPlace behindRecord behindShape endToEnd listCount shapeIn goodShape blockAt behindBlock blocksIn numberOf lowest positions removedRows removedDeps listsRow removeDenseAxes expanded lowered cmpRows increasing insert sorted sortedOnto extents commonShape shapesAgree broadcastShapes canBroadcastTo broadcastShapesCall canBroadcastToCall sharedAxesFit stretchedAxes everyValue takeAll stretchRows stretchDeps stretched broadcastToShape broadcastToRank broadcastToShapeCall broadcastToRankCall unionOfRows union unionCall
+unfolding part over put dense diagonal sparse newEmptyCall withinProduct alike wellFormed withinSizes soundLayout made encode all keep gather none from product same allBelow with entriesFrom sectionAt walk natural rowsOf entriesOf layoutBy sound row lowest cmpRows increasing insert sorted extents
 askNewEmpty a b = inForm encode (newEmptyCall a b)
 
 unfoldable pub askNewScalar : ℕ → Verdict (List ℤ)
-unfolding upTo goodComponents ruleOf combine stretchAll foldOnto foldBack endOfBroadcast broadcast broadcastCall part over put startAt joinDense firstD lastAgree agree movedBy joinSparse joinOther joinedDeps joinBlocks concatenate blockOf concatenateCall shortenedDeps contracted contractLastAxis contractLastAxisCall nnz minRankOf eqNonzeros eqNonzerosAndDeps toDense denseIfFull dense diagonal sparse toDataLayout nnzCall minRankCall eqNonzerosCall eqNonzerosAndDepsCall toDenseCall toDataLayoutCall newEmptyCall newScalarCall denseCall diagonalCall sparseCall onIndex held filterDeps barsFilter resultAfter workAfter cutDeps filterDepsFrom filterDepsFromCall withDense intersectOfRows intersect intersectCall withinProduct alike wellFormed withinSizes soundLayout made encode all any keep gather none from product sum largest same sameRows allBelow with fitTo readIndex placeFrom placeOf lookup findNnzIndexCall repeats isPermutation movedTo moved permuted permute permuteCall ravelIndex unravel unravelIndex ravelIndexCall unravelIndexCall cmpIndexCall entriesFrom sectionAt walk natural rowsOf entriesOf layoutBy layoutIn sound ordered row rowPlace behindRecord behindShape endToEnd listCount shapeIn goodShape blockAt behindBlock blocksIn numberOf lowest positions removedRows removedDeps listsRow removeDenseAxes expanded lowered cmpRows increasing insert sorted sortedOnto extents commonShape shapesAgree broadcastShapes canBroadcastTo broadcastShapesCall canBroadcastToCall sharedAxesFit stretchedAxes everyValue takeAll stretchRows stretchDeps stretched broadcastToShape broadcastToRank broadcastToShapeCall broadcastToRankCall unionOfRows union unionCall
+unfolding dense newScalarCall encode gather from lowest extents
 askNewScalar a = inForm encode (newScalarCall a)
 
 unfoldable pub askDense : List ℤ → ℕ → Verdict (List ℤ)
-unfolding upTo goodComponents ruleOf combine stretchAll foldOnto foldBack endOfBroadcast broadcast broadcastCall part over put startAt joinDense firstD lastAgree agree movedBy joinSparse joinOther joinedDeps joinBlocks concatenate blockOf concatenateCall shortenedDeps contracted contractLastAxis contractLastAxisCall nnz minRankOf eqNonzeros eqNonzerosAndDeps toDense denseIfFull dense diagonal sparse toDataLayout nnzCall minRankCall eqNonzerosCall eqNonzerosAndDepsCall toDenseCall toDataLayoutCall newEmptyCall newScalarCall denseCall diagonalCall sparseCall onIndex held filterDeps barsFilter resultAfter workAfter cutDeps filterDepsFrom filterDepsFromCall withDense intersectOfRows intersect intersectCall withinProduct alike wellFormed withinSizes soundLayout made encode all any keep gather none from product sum largest same sameRows allBelow with fitTo readIndex placeFrom placeOf lookup findNnzIndexCall repeats isPermutation movedTo moved permuted permute permuteCall ravelIndex unravel unravelIndex ravelIndexCall unravelIndexCall cmpIndexCall entriesFrom sectionAt walk natural rowsOf entriesOf layoutBy layoutIn sound ordered row rowPlace behindRecord behindShape endToEnd listCount shapeIn goodShape blockAt behindBlock blocksIn numberOf lowest positions removedRows removedDeps listsRow removeDenseAxes expanded lowered cmpRows increasing insert sorted sortedOnto extents commonShape shapesAgree broadcastShapes canBroadcastTo broadcastShapesCall canBroadcastToCall sharedAxesFit stretchedAxes everyValue takeAll stretchRows stretchDeps stretched broadcastToShape broadcastToRank broadcastToShapeCall broadcastToRankCall unionOfRows union unionCall
+unfolding part over put dense diagonal sparse denseCall withinProduct alike wellFormed withinSizes soundLayout made encode all keep gather none from product same allBelow with entriesFrom sectionAt walk natural rowsOf entriesOf layoutBy sound row shapeIn goodShape lowest cmpRows increasing insert sorted extents
 askDense a b = inForm encode (denseCall a b)
 
 unfoldable pub askDiagonal : List ℤ → ℕ → Verdict (List ℤ)
-unfolding upTo goodComponents ruleOf combine stretchAll foldOnto foldBack endOfBroadcast broadcast broadcastCall part over put startAt joinDense firstD lastAgree agree movedBy joinSparse joinOther joinedDeps joinBlocks concatenate blockOf concatenateCall shortenedDeps contracted contractLastAxis contractLastAxisCall nnz minRankOf eqNonzeros eqNonzerosAndDeps toDense denseIfFull dense diagonal sparse toDataLayout nnzCall minRankCall eqNonzerosCall eqNonzerosAndDepsCall toDenseCall toDataLayoutCall newEmptyCall newScalarCall denseCall diagonalCall sparseCall onIndex held filterDeps barsFilter resultAfter workAfter cutDeps filterDepsFrom filterDepsFromCall withDense intersectOfRows intersect intersectCall withinProduct alike wellFormed withinSizes soundLayout made encode all any keep gather none from product sum largest same sameRows allBelow with fitTo readIndex placeFrom placeOf lookup findNnzIndexCall repeats isPermutation movedTo moved permuted permute permuteCall ravelIndex unravel unravelIndex ravelIndexCall unravelIndexCall cmpIndexCall entriesFrom sectionAt walk natural rowsOf entriesOf layoutBy layoutIn sound ordered row rowPlace behindRecord behindShape endToEnd listCount shapeIn goodShape blockAt behindBlock blocksIn numberOf lowest positions removedRows removedDeps listsRow removeDenseAxes expanded lowered cmpRows increasing insert sorted sortedOnto extents commonShape shapesAgree broadcastShapes canBroadcastTo broadcastShapesCall canBroadcastToCall sharedAxesFit stretchedAxes everyValue takeAll stretchRows stretchDeps stretched broadcastToShape broadcastToRank broadcastToShapeCall broadcastToRankCall unionOfRows union unionCall
+unfolding part over put dense diagonal sparse diagonalCall withinProduct alike wellFormed withinSizes soundLayout made encode all keep gather none from product same allBelow with entriesFrom sectionAt walk natural rowsOf entriesOf layoutBy sound row shapeIn goodShape lowest cmpRows increasing insert sorted extents
 askDiagonal a b = inForm encode (diagonalCall a b)
 
 unfoldable pub askSparse : List ℤ → ℤ → List ℤ → ℕ → Verdict (List ℤ)
-unfolding upTo goodComponents ruleOf combine stretchAll foldOnto foldBack endOfBroadcast broadcast broadcastCall part over put startAt joinDense firstD lastAgree agree movedBy joinSparse joinOther joinedDeps joinBlocks concatenate blockOf concatenateCall shortenedDeps contracted contractLastAxis contractLastAxisCall nnz minRankOf eqNonzeros eqNonzerosAndDeps toDense denseIfFull dense diagonal sparse toDataLayout nnzCall minRankCall eqNonzerosCall eqNonzerosAndDepsCall toDenseCall toDataLayoutCall newEmptyCall newScalarCall denseCall diagonalCall sparseCall onIndex held filterDeps barsFilter resultAfter workAfter cutDeps filterDepsFrom filterDepsFromCall withDense intersectOfRows intersect intersectCall withinProduct alike wellFormed withinSizes soundLayout made encode all any keep gather none from product sum largest same sameRows allBelow with fitTo readIndex placeFrom placeOf lookup findNnzIndexCall repeats isPermutation movedTo moved permuted permute permuteCall ravelIndex unravel unravelIndex ravelIndexCall unravelIndexCall cmpIndexCall entriesFrom sectionAt walk natural rowsOf entriesOf layoutBy layoutIn sound ordered row rowPlace behindRecord behindShape endToEnd listCount shapeIn goodShape blockAt behindBlock blocksIn numberOf lowest positions removedRows removedDeps listsRow removeDenseAxes expanded lowered cmpRows increasing insert sorted sortedOnto extents commonShape shapesAgree broadcastShapes canBroadcastTo broadcastShapesCall canBroadcastToCall sharedAxesFit stretchedAxes everyValue takeAll stretchRows stretchDeps stretched broadcastToShape broadcastToRank broadcastToShapeCall broadcastToRankCall unionOfRows union unionCall
+unfolding part over put dense diagonal sparse sparseCall withinProduct alike wellFormed withinSizes soundLayout made encode all keep gather none from product same allBelow with entriesFrom sectionAt walk natural rowsOf entriesOf layoutBy sound row shapeIn goodShape lowest cmpRows increasing insert sorted extents
 askSparse a b c d = inForm encode (sparseCall a b c d)
 
 unfoldable pub askToDataLayout : List ℤ → ℕ → Verdict (List ℤ)
-unfolding upTo goodComponents ruleOf combine stretchAll foldOnto foldBack endOfBroadcast broadcast broadcastCall part over put startAt joinDense firstD lastAgree agree movedBy joinSparse joinOther joinedDeps joinBlocks concatenate blockOf concatenateCall shortenedDeps contracted contractLastAxis contractLastAxisCall nnz minRankOf eqNonzeros eqNonzerosAndDeps toDense denseIfFull dense diagonal sparse toDataLayout nnzCall minRankCall eqNonzerosCall eqNonzerosAndDepsCall toDenseCall toDataLayoutCall newEmptyCall newScalarCall denseCall diagonalCall sparseCall onIndex held filterDeps barsFilter resultAfter workAfter cutDeps filterDepsFrom filterDepsFromCall withDense intersectOfRows intersect intersectCall withinProduct alike wellFormed withinSizes soundLayout made encode all any keep gather none from product sum largest same sameRows allBelow with fitTo readIndex placeFrom placeOf lookup findNnzIndexCall repeats isPermutation movedTo moved permuted permute permuteCall ravelIndex unravel unravelIndex ravelIndexCall unravelIndexCall cmpIndexCall entriesFrom sectionAt walk natural rowsOf entriesOf layoutBy layoutIn sound ordered row rowPlace behindRecord behindShape endToEnd listCount shapeIn goodShape blockAt behindBlock blocksIn numberOf lowest positions removedRows removedDeps listsRow removeDenseAxes expanded lowered cmpRows increasing insert sorted sortedOnto extents commonShape shapesAgree broadcastShapes canBroadcastTo broadcastShapesCall canBroadcastToCall sharedAxesFit stretchedAxes everyValue takeAll stretchRows stretchDeps stretched broadcastToShape broadcastToRank broadcastToShapeCall broadcastToRankCall unionOfRows union unionCall
+unfolding part over put dense diagonal sparse toDataLayout toDataLayoutCall onIndex withinProduct alike wellFormed withinSizes soundLayout made all keep gather none from product same allBelow with fitTo entriesFrom sectionAt walk natural rowsOf entriesOf layoutBy layoutIn sound row lowest cmpRows increasing insert sorted sortedOnto extents stretchedAxes everyValue takeAll stretchRows stretchDeps stretched
 askToDataLayout a b = toDataLayoutCall a b
 
 unfoldable pub askBroadcastToShape : List ℤ → List ℤ → ℕ → ℕ → Verdict (List ℤ)
-unfolding upTo goodComponents ruleOf combine stretchAll foldOnto foldBack endOfBroadcast broadcast broadcastCall part over put startAt joinDense firstD lastAgree agree movedBy joinSparse joinOther joinedDeps joinBlocks concatenate blockOf concatenateCall shortenedDeps contracted contractLastAxis contractLastAxisCall nnz minRankOf eqNonzeros eqNonzerosAndDeps toDense denseIfFull dense diagonal sparse toDataLayout nnzCall minRankCall eqNonzerosCall eqNonzerosAndDepsCall toDenseCall toDataLayoutCall newEmptyCall newScalarCall denseCall diagonalCall sparseCall onIndex held filterDeps barsFilter resultAfter workAfter cutDeps filterDepsFrom filterDepsFromCall withDense intersectOfRows intersect intersectCall withinProduct alike wellFormed withinSizes soundLayout made encode all any keep gather none from product sum largest same sameRows allBelow with fitTo readIndex placeFrom placeOf lookup findNnzIndexCall repeats isPermutation movedTo moved permuted permute permuteCall ravelIndex unravel unravelIndex ravelIndexCall unravelIndexCall cmpIndexCall entriesFrom sectionAt walk natural rowsOf entriesOf layoutBy layoutIn sound ordered row rowPlace behindRecord behindShape endToEnd listCount shapeIn goodShape blockAt behindBlock blocksIn numberOf lowest positions removedRows removedDeps listsRow removeDenseAxes expanded lowered cmpRows increasing insert sorted sortedOnto extents commonShape shapesAgree broadcastShapes canBroadcastTo broadcastShapesCall canBroadcastToCall sharedAxesFit stretchedAxes everyValue takeAll stretchRows stretchDeps stretched broadcastToShape broadcastToRank broadcastToShapeCall broadcastToRankCall unionOfRows union unionCall
+unfolding part over put dense diagonal sparse onIndex withinProduct alike wellFormed withinSizes soundLayout made encode all keep gather none from product same allBelow with fitTo entriesFrom sectionAt walk natural rowsOf entriesOf layoutBy layoutIn sound row shapeIn goodShape lowest cmpRows increasing insert sorted sortedOnto extents sharedAxesFit stretchedAxes everyValue takeAll stretchRows stretchDeps stretched broadcastToShape broadcastToShapeCall
 askBroadcastToShape a b c d = inForm encode (broadcastToShapeCall a b c d)
 
 unfoldable pub askBroadcastToRank : List ℤ → ℤ → ℕ → ℕ → Verdict (List ℤ)
-unfolding upTo goodComponents ruleOf combine stretchAll foldOnto foldBack endOfBroadcast broadcast broadcastCall part over put startAt joinDense firstD lastAgree agree movedBy joinSparse joinOther joinedDeps joinBlocks concatenate blockOf concatenateCall shortenedDeps contracted contractLastAxis contractLastAxisCall nnz minRankOf eqNonzeros eqNonzerosAndDeps toDense denseIfFull dense diagonal sparse toDataLayout nnzCall minRankCall eqNonzerosCall eqNonzerosAndDepsCall toDenseCall toDataLayoutCall newEmptyCall newScalarCall denseCall diagonalCall sparseCall onIndex held filterDeps barsFilter resultAfter workAfter cutDeps filterDepsFrom filterDepsFromCall withDense intersectOfRows intersect intersectCall withinProduct alike wellFormed withinSizes soundLayout made encode all any keep gather none from product sum largest same sameRows allBelow with fitTo readIndex placeFrom placeOf lookup findNnzIndexCall repeats isPermutation movedTo moved permuted permute permuteCall ravelIndex unravel unravelIndex ravelIndexCall unravelIndexCall cmpIndexCall entriesFrom sectionAt walk natural rowsOf entriesOf layoutBy layoutIn sound ordered row rowPlace behindRecord behindShape endToEnd listCount shapeIn goodShape blockAt behindBlock blocksIn numberOf lowest positions removedRows removedDeps listsRow removeDenseAxes expanded lowered cmpRows increasing insert sorted sortedOnto extents commonShape shapesAgree broadcastShapes canBroadcastTo broadcastShapesCall canBroadcastToCall sharedAxesFit stretchedAxes everyValue takeAll stretchRows stretchDeps stretched broadcastToShape broadcastToRank broadcastToShapeCall broadcastToRankCall unionOfRows union unionCall
+unfolding part over put dense diagonal sparse onIndex withinProduct alike wellFormed withinSizes soundLayout made encode all keep gather none from product same allBelow with fitTo entriesFrom sectionAt walk natural rowsOf entriesOf layoutBy layoutIn sound row lowest cmpRows increasing insert sorted sortedOnto extents sharedAxesFit stretchedAxes everyValue takeAll stretchRows stretchDeps stretched broadcastToShape broadcastToRank broadcastToRankCall
 askBroadcastToRank a b c d = inForm encode (broadcastToRankCall a b c d)
 
 unfoldable pub askUnion : List ℤ → List ℤ → ℕ → ℕ → Verdict (List ℤ)
-unfolding upTo goodComponents ruleOf combine stretchAll foldOnto foldBack endOfBroadcast broadcast broadcastCall part over put startAt joinDense firstD lastAgree agree movedBy joinSparse joinOther joinedDeps joinBlocks concatenate blockOf concatenateCall shortenedDeps contracted contractLastAxis contractLastAxisCall nnz minRankOf eqNonzeros eqNonzerosAndDeps toDense denseIfFull dense diagonal sparse toDataLayout nnzCall minRankCall eqNonzerosCall eqNonzerosAndDepsCall toDenseCall toDataLayoutCall newEmptyCall newScalarCall denseCall diagonalCall sparseCall onIndex held filterDeps barsFilter resultAfter workAfter cutDeps filterDepsFrom filterDepsFromCall withDense intersectOfRows intersect intersectCall withinProduct alike wellFormed withinSizes soundLayout made encode all any keep gather none from product sum largest same sameRows allBelow with fitTo readIndex placeFrom placeOf lookup findNnzIndexCall repeats isPermutation movedTo moved permuted permute permuteCall ravelIndex unravel unravelIndex ravelIndexCall unravelIndexCall cmpIndexCall entriesFrom sectionAt walk natural rowsOf entriesOf layoutBy layoutIn sound ordered row rowPlace behindRecord behindShape endToEnd listCount shapeIn goodShape blockAt behindBlock blocksIn numberOf lowest positions removedRows removedDeps listsRow removeDenseAxes expanded lowered cmpRows increasing insert sorted sortedOnto extents commonShape shapesAgree broadcastShapes canBroadcastTo broadcastShapesCall canBroadcastToCall sharedAxesFit stretchedAxes everyValue takeAll stretchRows stretchDeps stretched broadcastToShape broadcastToRank broadcastToShapeCall broadcastToRankCall unionOfRows union unionCall
+unfolding part over put toDense dense diagonal sparse onIndex withinProduct alike wellFormed withinSizes soundLayout made encode all keep gather none from product same allBelow with entriesFrom sectionAt walk natural rowsOf entriesOf layoutBy layoutIn sound row lowest positions removedRows removedDeps listsRow removeDenseAxes expanded lowered cmpRows increasing insert sorted sortedOnto extents unionOfRows union unionCall
 askUnion a b c d = inForm encode (unionCall a b c d)
 
 unfoldable pub askIntersect : List ℤ → List ℤ → ℕ → ℕ → Verdict (List ℤ)
-unfolding upTo goodComponents ruleOf combine stretchAll foldOnto foldBack endOfBroadcast broadcast broadcastCall part over put startAt joinDense firstD lastAgree agree movedBy joinSparse joinOther joinedDeps joinBlocks concatenate blockOf concatenateCall shortenedDeps contracted contractLastAxis contractLastAxisCall nnz minRankOf eqNonzeros eqNonzerosAndDeps toDense denseIfFull dense diagonal sparse toDataLayout nnzCall minRankCall eqNonzerosCall eqNonzerosAndDepsCall toDenseCall toDataLayoutCall newEmptyCall newScalarCall denseCall diagonalCall sparseCall onIndex held filterDeps barsFilter resultAfter workAfter cutDeps filterDepsFrom filterDepsFromCall withDense intersectOfRows intersect intersectCall withinProduct alike wellFormed withinSizes soundLayout made encode all any keep gather none from product sum largest same sameRows allBelow with fitTo readIndex placeFrom placeOf lookup findNnzIndexCall repeats isPermutation movedTo moved permuted permute permuteCall ravelIndex unravel unravelIndex ravelIndexCall unravelIndexCall cmpIndexCall entriesFrom sectionAt walk natural rowsOf entriesOf layoutBy layoutIn sound ordered row rowPlace behindRecord behindShape endToEnd listCount shapeIn goodShape blockAt behindBlock blocksIn numberOf lowest positions removedRows removedDeps listsRow removeDenseAxes expanded lowered cmpRows increasing insert sorted sortedOnto extents commonShape shapesAgree broadcastShapes canBroadcastTo broadcastShapesCall canBroadcastToCall sharedAxesFit stretchedAxes everyValue takeAll stretchRows stretchDeps stretched broadcastToShape broadcastToRank broadcastToShapeCall broadcastToRankCall unionOfRows union unionCall
+unfolding part over put toDense denseIfFull dense diagonal sparse onIndex held filterDeps barsFilter withDense intersectOfRows intersect intersectCall withinProduct alike wellFormed withinSizes soundLayout made encode all any keep gather none from product same allBelow with entriesFrom sectionAt walk natural rowsOf entriesOf layoutBy layoutIn sound ordered row lowest positions removedRows removedDeps listsRow removeDenseAxes expanded lowered cmpRows increasing insert sorted sortedOnto extents
 askIntersect a b c d = inForm encode (intersectCall a b c d)
 
 unfoldable pub askContractLastAxis : List ℤ → ℕ → ℕ → Verdict (List ℤ)
-unfolding upTo goodComponents ruleOf combine stretchAll foldOnto foldBack endOfBroadcast broadcast broadcastCall part over put startAt joinDense firstD lastAgree agree movedBy joinSparse joinOther joinedDeps joinBlocks concatenate blockOf concatenateCall shortenedDeps contracted contractLastAxis contractLastAxisCall nnz minRankOf eqNonzeros eqNonzerosAndDeps toDense denseIfFull dense diagonal sparse toDataLayout nnzCall minRankCall eqNonzerosCall eqNonzerosAndDepsCall toDenseCall toDataLayoutCall newEmptyCall newScalarCall denseCall diagonalCall sparseCall onIndex held filterDeps barsFilter resultAfter workAfter cutDeps filterDepsFrom filterDepsFromCall withDense intersectOfRows intersect intersectCall withinProduct alike wellFormed withinSizes soundLayout made encode all any keep gather none from product sum largest same sameRows allBelow with fitTo readIndex placeFrom placeOf lookup findNnzIndexCall repeats isPermutation movedTo moved permuted permute permuteCall ravelIndex unravel unravelIndex ravelIndexCall unravelIndexCall cmpIndexCall entriesFrom sectionAt walk natural rowsOf entriesOf layoutBy layoutIn sound ordered row rowPlace behindRecord behindShape endToEnd listCount shapeIn goodShape blockAt behindBlock blocksIn numberOf lowest positions removedRows removedDeps listsRow removeDenseAxes expanded lowered cmpRows increasing insert sorted sortedOnto extents commonShape shapesAgree broadcastShapes canBroadcastTo broadcastShapesCall canBroadcastToCall sharedAxesFit stretchedAxes everyValue takeAll stretchRows stretchDeps stretched broadcastToShape broadcastToRank broadcastToShapeCall broadcastToRankCall unionOfRows union unionCall
+unfolding part over put shortenedDeps contracted contractLastAxis contractLastAxisCall toDense denseIfFull dense diagonal sparse onIndex withinProduct alike wellFormed withinSizes soundLayout made encode all keep gather none from product same allBelow with entriesFrom sectionAt walk natural rowsOf entriesOf layoutBy layoutIn sound row lowest cmpRows increasing insert sorted extents
 askContractLastAxis a b c = inForm encode (contractLastAxisCall a b c)
 
 unfoldable pub askPermute : List ℤ → List ℤ → ℕ → ℕ → Verdict (List ℤ)
-unfolding upTo goodComponents ruleOf combine stretchAll foldOnto foldBack endOfBroadcast broadcast broadcastCall part over put startAt joinDense firstD lastAgree agree movedBy joinSparse joinOther joinedDeps joinBlocks concatenate blockOf concatenateCall shortenedDeps contracted contractLastAxis contractLastAxisCall nnz minRankOf eqNonzeros eqNonzerosAndDeps toDense denseIfFull dense diagonal sparse toDataLayout nnzCall minRankCall eqNonzerosCall eqNonzerosAndDepsCall toDenseCall toDataLayoutCall newEmptyCall newScalarCall denseCall diagonalCall sparseCall onIndex held filterDeps barsFilter resultAfter workAfter cutDeps filterDepsFrom filterDepsFromCall withDense intersectOfRows intersect intersectCall withinProduct alike wellFormed withinSizes soundLayout made encode all any keep gather none from product sum largest same sameRows allBelow with fitTo readIndex placeFrom placeOf lookup findNnzIndexCall repeats isPermutation movedTo moved permuted permute permuteCall ravelIndex unravel unravelIndex ravelIndexCall unravelIndexCall cmpIndexCall entriesFrom sectionAt walk natural rowsOf entriesOf layoutBy layoutIn sound ordered row rowPlace behindRecord behindShape endToEnd listCount shapeIn goodShape blockAt behindBlock blocksIn numberOf lowest positions removedRows removedDeps listsRow removeDenseAxes expanded lowered cmpRows increasing insert sorted sortedOnto extents commonShape shapesAgree broadcastShapes canBroadcastTo broadcastShapesCall canBroadcastToCall sharedAxesFit stretchedAxes everyValue takeAll stretchRows stretchDeps stretched broadcastToShape broadcastToRank broadcastToShapeCall broadcastToRankCall unionOfRows union unionCall
+unfolding upTo part over put minRankOf dense diagonal sparse onIndex withinProduct alike wellFormed withinSizes soundLayout made encode all any keep gather none from product largest same allBelow with repeats isPermutation movedTo moved permuted permute permuteCall entriesFrom sectionAt walk natural rowsOf entriesOf layoutBy layoutIn sound row lowest cmpRows increasing insert sorted extents
 askPermute a b c d = inForm encode (permuteCall a b c d)
 
 unfoldable pub askBroadcast : List ℤ → ℤ → ℕ → ℕ → ℕ → Verdict (List ℤ)
-unfolding upTo goodComponents ruleOf combine stretchAll foldOnto foldBack endOfBroadcast broadcast broadcastCall part over put startAt joinDense firstD lastAgree agree movedBy joinSparse joinOther joinedDeps joinBlocks concatenate blockOf concatenateCall shortenedDeps contracted contractLastAxis contractLastAxisCall nnz minRankOf eqNonzeros eqNonzerosAndDeps toDense denseIfFull dense diagonal sparse toDataLayout nnzCall minRankCall eqNonzerosCall eqNonzerosAndDepsCall toDenseCall toDataLayoutCall newEmptyCall newScalarCall denseCall diagonalCall sparseCall onIndex held filterDeps barsFilter resultAfter workAfter cutDeps filterDepsFrom filterDepsFromCall withDense intersectOfRows intersect intersectCall withinProduct alike wellFormed withinSizes soundLayout made encode all any keep gather none from product sum largest same sameRows allBelow with fitTo readIndex placeFrom placeOf lookup findNnzIndexCall repeats isPermutation movedTo moved permuted permute permuteCall ravelIndex unravel unravelIndex ravelIndexCall unravelIndexCall cmpIndexCall entriesFrom sectionAt walk natural rowsOf entriesOf layoutBy layoutIn sound ordered row rowPlace behindRecord behindShape endToEnd listCount shapeIn goodShape blockAt behindBlock blocksIn numberOf lowest positions removedRows removedDeps listsRow removeDenseAxes expanded lowered cmpRows increasing insert sorted sortedOnto extents commonShape shapesAgree broadcastShapes canBroadcastTo broadcastShapesCall canBroadcastToCall sharedAxesFit stretchedAxes everyValue takeAll stretchRows stretchDeps stretched broadcastToShape broadcastToRank broadcastToShapeCall broadcastToRankCall unionOfRows union unionCall
+unfolding upTo ruleOf combine stretchAll foldOnto foldBack endOfBroadcast broadcast broadcastCall part over put firstD lastAgree agree eqNonzeros toDense denseIfFull dense diagonal sparse onIndex held filterDeps barsFilter withDense intersectOfRows intersect withinProduct alike wellFormed withinSizes soundLayout made encode all any keep gather none from product largest same sameRows allBelow with fitTo entriesFrom sectionAt walk natural rowsOf entriesOf layoutBy layoutIn sound row behindRecord endToEnd listCount lowest positions removedRows removedDeps listsRow removeDenseAxes expanded lowered cmpRows increasing insert sorted sortedOnto extents commonShape shapesAgree broadcastShapes sharedAxesFit stretchedAxes everyValue takeAll stretchRows stretchDeps stretched broadcastToShape unionOfRows union
 askBroadcast a b c d e = inForm encode (broadcastCall a b c d e)
 
 unfoldable pub askConcatenate : List ℤ → ℤ → ℤ → ℕ → ℕ → Verdict (List ℤ)
-unfolding upTo goodComponents ruleOf combine stretchAll foldOnto foldBack endOfBroadcast broadcast broadcastCall part over put startAt joinDense firstD lastAgree agree movedBy joinSparse joinOther joinedDeps joinBlocks concatenate blockOf concatenateCall shortenedDeps contracted contractLastAxis contractLastAxisCall nnz minRankOf eqNonzeros eqNonzerosAndDeps toDense denseIfFull dense diagonal sparse toDataLayout nnzCall minRankCall eqNonzerosCall eqNonzerosAndDepsCall toDenseCall toDataLayoutCall newEmptyCall newScalarCall denseCall diagonalCall sparseCall onIndex held filterDeps barsFilter resultAfter workAfter cutDeps filterDepsFrom filterDepsFromCall withDense intersectOfRows intersect intersectCall withinProduct alike wellFormed withinSizes soundLayout made encode all any keep gather none from product sum largest same sameRows allBelow with fitTo readIndex placeFrom placeOf lookup findNnzIndexCall repeats isPermutation movedTo moved permuted permute permuteCall ravelIndex unravel unravelIndex ravelIndexCall unravelIndexCall cmpIndexCall entriesFrom sectionAt walk natural rowsOf entriesOf layoutBy layoutIn sound ordered row rowPlace behindRecord behindShape endToEnd listCount shapeIn goodShape blockAt behindBlock blocksIn numberOf lowest positions removedRows removedDeps listsRow removeDenseAxes expanded lowered cmpRows increasing insert sorted sortedOnto extents commonShape shapesAgree broadcastShapes canBroadcastTo broadcastShapesCall canBroadcastToCall sharedAxesFit stretchedAxes everyValue takeAll stretchRows stretchDeps stretched broadcastToShape broadcastToRank broadcastToShapeCall broadcastToRankCall unionOfRows union unionCall
+unfolding upTo part over put startAt joinDense firstD lastAgree agree movedBy joinSparse joinOther joinedDeps joinBlocks concatenate blockOf concatenateCall toDense denseIfFull dense diagonal sparse onIndex withinProduct alike wellFormed withinSizes soundLayout made encode all any keep gather none from product sum largest same allBelow with fitTo movedTo moved entriesFrom sectionAt walk natural rowsOf entriesOf layoutBy layoutIn sound row behindRecord endToEnd listCount blockAt behindBlock blocksIn lowest positions expanded cmpRows increasing insert sorted extents
 askConcatenate a b c d e = inForm encode (concatenateCall a b c d e)
 
 unfoldable pub askFilterDepsFrom : List ℤ → List ℤ → ℤ → ℤ → ℕ → ℕ → Verdict (List ℤ)
-unfolding upTo goodComponents ruleOf combine stretchAll foldOnto foldBack endOfBroadcast broadcast broadcastCall part over put startAt joinDense firstD lastAgree agree movedBy joinSparse joinOther joinedDeps joinBlocks concatenate blockOf concatenateCall shortenedDeps contracted contractLastAxis contractLastAxisCall nnz minRankOf eqNonzeros eqNonzerosAndDeps toDense denseIfFull dense diagonal sparse toDataLayout nnzCall minRankCall eqNonzerosCall eqNonzerosAndDepsCall toDenseCall toDataLayoutCall newEmptyCall newScalarCall denseCall diagonalCall sparseCall onIndex held filterDeps barsFilter resultAfter workAfter cutDeps filterDepsFrom filterDepsFromCall withDense intersectOfRows intersect intersectCall withinProduct alike wellFormed withinSizes soundLayout made encode all any keep gather none from product sum largest same sameRows allBelow with fitTo readIndex placeFrom placeOf lookup findNnzIndexCall repeats isPermutation movedTo moved permuted permute permuteCall ravelIndex unravel unravelIndex ravelIndexCall unravelIndexCall cmpIndexCall entriesFrom sectionAt walk natural rowsOf entriesOf layoutBy layoutIn sound ordered row rowPlace behindRecord behindShape endToEnd listCount shapeIn goodShape blockAt behindBlock blocksIn numberOf lowest positions removedRows removedDeps listsRow removeDenseAxes expanded lowered cmpRows increasing insert sorted sortedOnto extents commonShape shapesAgree broadcastShapes canBroadcastTo broadcastShapesCall canBroadcastToCall sharedAxesFit stretchedAxes everyValue takeAll stretchRows stretchDeps stretched broadcastToShape broadcastToRank broadcastToShapeCall broadcastToRankCall unionOfRows union unionCall
+unfolding upTo part over put dense diagonal sparse onIndex cutDeps filterDepsFrom filterDepsFromCall withinProduct alike wellFormed withinSizes soundLayout made encode all keep gather none from product same allBelow with entriesFrom sectionAt walk natural rowsOf entriesOf layoutBy layoutIn sound row lowest cmpRows increasing insert sorted extents
 askFilterDepsFrom a b c d e f = inForm encode (filterDepsFromCall a b c d e f)
 
 unfoldable pub askSound : List ℤ → Verdict (Bool)
-unfolding upTo goodComponents ruleOf combine stretchAll foldOnto foldBack endOfBroadcast broadcast broadcastCall part over put startAt joinDense firstD lastAgree agree movedBy joinSparse joinOther joinedDeps joinBlocks concatenate blockOf concatenateCall shortenedDeps contracted contractLastAxis contractLastAxisCall nnz minRankOf eqNonzeros eqNonzerosAndDeps toDense denseIfFull dense diagonal sparse toDataLayout nnzCall minRankCall eqNonzerosCall eqNonzerosAndDepsCall toDenseCall toDataLayoutCall newEmptyCall newScalarCall denseCall diagonalCall sparseCall onIndex held filterDeps barsFilter resultAfter workAfter cutDeps filterDepsFrom filterDepsFromCall withDense intersectOfRows intersect intersectCall withinProduct alike wellFormed withinSizes soundLayout made encode all any keep gather none from product sum largest same sameRows allBelow with fitTo readIndex placeFrom placeOf lookup findNnzIndexCall repeats isPermutation movedTo moved permuted permute permuteCall ravelIndex unravel unravelIndex ravelIndexCall unravelIndexCall cmpIndexCall entriesFrom sectionAt walk natural rowsOf entriesOf layoutBy layoutIn sound ordered row rowPlace behindRecord behindShape endToEnd listCount shapeIn goodShape blockAt behindBlock blocksIn numberOf lowest positions removedRows removedDeps listsRow removeDenseAxes expanded lowered cmpRows increasing insert sorted sortedOnto extents commonShape shapesAgree broadcastShapes canBroadcastTo broadcastShapesCall canBroadcastToCall sharedAxesFit stretchedAxes everyValue takeAll stretchRows stretchDeps stretched broadcastToShape broadcastToRank broadcastToShapeCall broadcastToRankCall unionOfRows union unionCall
+unfolding part over put dense diagonal sparse withinProduct alike wellFormed withinSizes soundLayout made all keep gather none from product same allBelow with entriesFrom sectionAt walk natural rowsOf entriesOf layoutBy sound row lowest cmpRows increasing insert sorted extents
 askSound a = given (sound a)
 
 unfoldable pub askOrdered : List ℤ → Verdict (Bool)
-unfolding upTo goodComponents ruleOf combine stretchAll foldOnto foldBack endOfBroadcast broadcast broadcastCall part over put startAt joinDense firstD lastAgree agree movedBy joinSparse joinOther joinedDeps joinBlocks concatenate blockOf concatenateCall shortenedDeps contracted contractLastAxis contractLastAxisCall nnz minRankOf eqNonzeros eqNonzerosAndDeps toDense denseIfFull dense diagonal sparse toDataLayout nnzCall minRankCall eqNonzerosCall eqNonzerosAndDepsCall toDenseCall toDataLayoutCall newEmptyCall newScalarCall denseCall diagonalCall sparseCall onIndex held filterDeps barsFilter resultAfter workAfter cutDeps filterDepsFrom filterDepsFromCall withDense intersectOfRows intersect intersectCall withinProduct alike wellFormed withinSizes soundLayout made encode all any keep gather none from product sum largest same sameRows allBelow with fitTo readIndex placeFrom placeOf lookup findNnzIndexCall repeats isPermutation movedTo moved permuted permute permuteCall ravelIndex unravel unravelIndex ravelIndexCall unravelIndexCall cmpIndexCall entriesFrom sectionAt walk natural rowsOf entriesOf layoutBy layoutIn sound ordered row rowPlace behindRecord behindShape endToEnd listCount shapeIn goodShape blockAt behindBlock blocksIn numberOf lowest positions removedRows removedDeps listsRow removeDenseAxes expanded lowered cmpRows increasing insert sorted sortedOnto extents commonShape shapesAgree broadcastShapes canBroadcastTo broadcastShapesCall canBroadcastToCall sharedAxesFit stretchedAxes everyValue takeAll stretchRows stretchDeps stretched broadcastToShape broadcastToRank broadcastToShapeCall broadcastToRankCall unionOfRows union unionCall
+unfolding part over put dense diagonal sparse withinProduct alike wellFormed withinSizes soundLayout made all keep gather none from product same allBelow with entriesFrom sectionAt walk natural rowsOf entriesOf layoutBy layoutIn sound ordered row lowest cmpRows increasing insert sorted extents
 askOrdered a = given (ordered a)
 
 unfoldable pub askRow : List ℤ → ℤ → Verdict (List ℤ)
-unfolding upTo goodComponents ruleOf combine stretchAll foldOnto foldBack endOfBroadcast broadcast broadcastCall part over put startAt joinDense firstD lastAgree agree movedBy joinSparse joinOther joinedDeps joinBlocks concatenate blockOf concatenateCall shortenedDeps contracted contractLastAxis contractLastAxisCall nnz minRankOf eqNonzeros eqNonzerosAndDeps toDense denseIfFull dense diagonal sparse toDataLayout nnzCall minRankCall eqNonzerosCall eqNonzerosAndDepsCall toDenseCall toDataLayoutCall newEmptyCall newScalarCall denseCall diagonalCall sparseCall onIndex held filterDeps barsFilter resultAfter workAfter cutDeps filterDepsFrom filterDepsFromCall withDense intersectOfRows intersect intersectCall withinProduct alike wellFormed withinSizes soundLayout made encode all any keep gather none from product sum largest same sameRows allBelow with fitTo readIndex placeFrom placeOf lookup findNnzIndexCall repeats isPermutation movedTo moved permuted permute permuteCall ravelIndex unravel unravelIndex ravelIndexCall unravelIndexCall cmpIndexCall entriesFrom sectionAt walk natural rowsOf entriesOf layoutBy layoutIn sound ordered row rowPlace behindRecord behindShape endToEnd listCount shapeIn goodShape blockAt behindBlock blocksIn numberOf lowest positions removedRows removedDeps listsRow removeDenseAxes expanded lowered cmpRows increasing insert sorted sortedOnto extents commonShape shapesAgree broadcastShapes canBroadcastTo broadcastShapesCall canBroadcastToCall sharedAxesFit stretchedAxes everyValue takeAll stretchRows stretchDeps stretched broadcastToShape broadcastToRank broadcastToShapeCall broadcastToRankCall unionOfRows union unionCall
+unfolding part over put dense diagonal sparse withinProduct alike wellFormed withinSizes soundLayout made all keep gather none from product same allBelow with entriesFrom sectionAt walk natural rowsOf entriesOf layoutBy sound row lowest cmpRows increasing insert sorted extents
 askRow a b = given (row a b)

@@ -123,81 +123,85 @@ e27 : askBroadcastShapes (nums (0 ∷ 1 ∷ 0 ∷ [])) (pos 2) ≡ refused 6
 unfolding askBroadcastShapes
 e27 = refl
 
--- canBroadcastToCall: answered
-e28 : askCanBroadcastTo (nums (0 ∷ [])) (nums (0 ∷ [])) ≡ given true
-unfolding askCanBroadcastTo
+e28 : askBroadcastShapes (nums (2 ∷ 256 ∷ 1 ∷ 2 ∷ 2 ∷ 257 ∷ [])) (pos 2) ≡ refused 6
+unfolding askBroadcastShapes
 e28 = refl
 
-e29 : askCanBroadcastTo (nums (0 ∷ [])) (nums (0 ∷ 2 ∷ [])) ≡ given true
+-- canBroadcastToCall: answered
+e29 : askCanBroadcastTo (nums (0 ∷ [])) (nums (0 ∷ [])) ≡ given true
 unfolding askCanBroadcastTo
 e29 = refl
 
-e30 : askCanBroadcastTo (nums (0 ∷ [])) (nums (1 ∷ 3 ∷ [])) ≡ given false
+e30 : askCanBroadcastTo (nums (0 ∷ [])) (nums (0 ∷ 2 ∷ [])) ≡ given true
 unfolding askCanBroadcastTo
 e30 = refl
 
-e31 : askCanBroadcastTo (nums (0 ∷ 3 ∷ [])) (nums (0 ∷ [])) ≡ given true
+e31 : askCanBroadcastTo (nums (0 ∷ [])) (nums (1 ∷ 3 ∷ [])) ≡ given false
 unfolding askCanBroadcastTo
 e31 = refl
 
-e32 : askCanBroadcastTo (nums (1 ∷ 1 ∷ [])) (nums (0 ∷ [])) ≡ given true
+e32 : askCanBroadcastTo (nums (0 ∷ 3 ∷ [])) (nums (0 ∷ [])) ≡ given true
 unfolding askCanBroadcastTo
 e32 = refl
 
-e33 : askCanBroadcastTo (nums (1 ∷ 2 ∷ [])) (nums (0 ∷ [])) ≡ given true
+e33 : askCanBroadcastTo (nums (1 ∷ 1 ∷ [])) (nums (0 ∷ [])) ≡ given true
 unfolding askCanBroadcastTo
 e33 = refl
 
-e34 : askCanBroadcastTo (nums (1 ∷ 3 ∷ [])) (nums (0 ∷ [])) ≡ given true
+e34 : askCanBroadcastTo (nums (1 ∷ 2 ∷ [])) (nums (0 ∷ [])) ≡ given true
 unfolding askCanBroadcastTo
 e34 = refl
 
-e35 : askCanBroadcastTo (nums (1 ∷ 4 ∷ [])) (nums (0 ∷ [])) ≡ given true
+e35 : askCanBroadcastTo (nums (1 ∷ 3 ∷ [])) (nums (0 ∷ [])) ≡ given true
 unfolding askCanBroadcastTo
 e35 = refl
 
-e36 : askCanBroadcastTo (nums (1 ∷ 0 ∷ [])) (nums (1 ∷ 1 ∷ [])) ≡ given false
+e36 : askCanBroadcastTo (nums (1 ∷ 4 ∷ [])) (nums (0 ∷ [])) ≡ given true
 unfolding askCanBroadcastTo
 e36 = refl
 
-e37 : askCanBroadcastTo (nums (1 ∷ 1 ∷ [])) (nums (1 ∷ 2 ∷ [])) ≡ given false
+e37 : askCanBroadcastTo (nums (1 ∷ 0 ∷ [])) (nums (1 ∷ 1 ∷ [])) ≡ given false
 unfolding askCanBroadcastTo
 e37 = refl
 
-e38 : askCanBroadcastTo (nums (1 ∷ 2 ∷ [])) (nums (1 ∷ 1 ∷ [])) ≡ given true
+e38 : askCanBroadcastTo (nums (1 ∷ 1 ∷ [])) (nums (1 ∷ 2 ∷ [])) ≡ given false
 unfolding askCanBroadcastTo
 e38 = refl
 
-e39 : askCanBroadcastTo (nums (1 ∷ 3 ∷ [])) (nums (1 ∷ 1 ∷ [])) ≡ given true
+e39 : askCanBroadcastTo (nums (1 ∷ 2 ∷ [])) (nums (1 ∷ 1 ∷ [])) ≡ given true
 unfolding askCanBroadcastTo
 e39 = refl
 
-e40 : askCanBroadcastTo (nums (0 ∷ 2 ∷ 3 ∷ [])) (nums (0 ∷ [])) ≡ given true
+e40 : askCanBroadcastTo (nums (1 ∷ 3 ∷ [])) (nums (1 ∷ 1 ∷ [])) ≡ given true
 unfolding askCanBroadcastTo
 e40 = refl
 
-e41 : askCanBroadcastTo (nums (2 ∷ 1 ∷ 2 ∷ [])) (nums (0 ∷ [])) ≡ given true
+e41 : askCanBroadcastTo (nums (0 ∷ 2 ∷ 3 ∷ [])) (nums (0 ∷ [])) ≡ given true
 unfolding askCanBroadcastTo
 e41 = refl
 
-e42 : askCanBroadcastTo (nums (2 ∷ 2 ∷ 2 ∷ [])) (nums (0 ∷ [])) ≡ given true
+e42 : askCanBroadcastTo (nums (2 ∷ 1 ∷ 2 ∷ [])) (nums (0 ∷ [])) ≡ given true
 unfolding askCanBroadcastTo
 e42 = refl
 
--- canBroadcastToCall: refused 1
-e43 : askCanBroadcastTo (nums (0 ∷ [])) (nums (6 ∷ [])) ≡ refused 1
+e43 : askCanBroadcastTo (nums (2 ∷ 2 ∷ 2 ∷ [])) (nums (0 ∷ [])) ≡ given true
 unfolding askCanBroadcastTo
 e43 = refl
 
-e44 : askCanBroadcastTo (negsuc 0 ∷ []) (nums (5 ∷ [])) ≡ refused 1
+-- canBroadcastToCall: refused 1
+e44 : askCanBroadcastTo (nums (0 ∷ [])) (nums (6 ∷ [])) ≡ refused 1
 unfolding askCanBroadcastTo
 e44 = refl
 
-e45 : askCanBroadcastTo (nums (5 ∷ [])) (negsuc 0 ∷ []) ≡ refused 1
+e45 : askCanBroadcastTo (negsuc 0 ∷ []) (nums (5 ∷ [])) ≡ refused 1
 unfolding askCanBroadcastTo
 e45 = refl
 
--- canBroadcastToCall: refused 5
-e46 : askCanBroadcastTo [] (nums (0 ∷ [])) ≡ refused 5
+e46 : askCanBroadcastTo (nums (5 ∷ [])) (negsuc 0 ∷ []) ≡ refused 1
 unfolding askCanBroadcastTo
 e46 = refl
+
+-- canBroadcastToCall: refused 5
+e47 : askCanBroadcastTo [] (nums (0 ∷ [])) ≡ refused 5
+unfolding askCanBroadcastTo
+e47 = refl

@@ -64,237 +64,245 @@ e13 : askBroadcastToShape (nums (0 ∷ 1 ∷ 1 ∷ 1 ∷ 0 ∷ 1 ∷ 0 ∷ 0 ∷
 unfolding askBroadcastToShape
 e13 = refl
 
-e14 : askBroadcastToShape (nums (2 ∷ 0 ∷ 1 ∷ 2 ∷ 2 ∷ 1 ∷ 0 ∷ 0 ∷ 0 ∷ [])) (nums (1 ∷ 2 ∷ [])) 1802 10812 ≡ given (nums (2 ∷ 0 ∷ 1 ∷ 2 ∷ 2 ∷ 0 ∷ 1 ∷ 0 ∷ 0 ∷ []))
+e14 : askBroadcastToShape (nums (0 ∷ 1 ∷ 1 ∷ 1 ∷ 0 ∷ 1 ∷ 5 ∷ 7 ∷ 0 ∷ [])) (nums (1 ∷ 1 ∷ [])) 1802 10812 ≡ given (nums (0 ∷ 1 ∷ 1 ∷ 1 ∷ 0 ∷ 1 ∷ 5 ∷ 7 ∷ 0 ∷ []))
 unfolding askBroadcastToShape
 e14 = refl
 
-e15 : askBroadcastToShape (nums (0 ∷ 4 ∷ 4 ∷ 3 ∷ 2 ∷ 3 ∷ 3 ∷ 0 ∷ 0 ∷ 0 ∷ [])) (nums (0 ∷ [])) 1803 10812 ≡ given (nums (0 ∷ 0 ∷ 0 ∷ 0 ∷ 0 ∷ 0 ∷ []))
+e15 : askBroadcastToShape (nums (2 ∷ 0 ∷ 1 ∷ 2 ∷ 2 ∷ 1 ∷ 0 ∷ 0 ∷ 0 ∷ [])) (nums (1 ∷ 2 ∷ [])) 1802 10812 ≡ given (nums (2 ∷ 0 ∷ 1 ∷ 2 ∷ 2 ∷ 0 ∷ 1 ∷ 0 ∷ 0 ∷ []))
 unfolding askBroadcastToShape
 e15 = refl
 
--- broadcastToShapeCall: refused 1
-e16 : askBroadcastToShape [] (nums (5 ∷ [])) 0 0 ≡ refused 1
+e16 : askBroadcastToShape (nums (0 ∷ 4 ∷ 4 ∷ 3 ∷ 2 ∷ 3 ∷ 3 ∷ 0 ∷ 0 ∷ 0 ∷ [])) (nums (0 ∷ [])) 1803 10812 ≡ given (nums (0 ∷ 0 ∷ 0 ∷ 0 ∷ 0 ∷ 0 ∷ []))
 unfolding askBroadcastToShape
 e16 = refl
 
-e17 : askBroadcastToShape [] (nums (5 ∷ [])) 1802 10812 ≡ refused 1
+e17 : askBroadcastToShape (nums (0 ∷ 2 ∷ 2 ∷ 1 ∷ 1 ∷ 0 ∷ 1 ∷ 0 ∷ 0 ∷ 7 ∷ 0 ∷ [])) (nums (2 ∷ 2 ∷ 2 ∷ [])) 1802 10812 ≡ given (nums (0 ∷ 2 ∷ 2 ∷ 2 ∷ 2 ∷ 0 ∷ 3 ∷ 0 ∷ 0 ∷ 7 ∷ 0 ∷ 1 ∷ 7 ∷ 1 ∷ 0 ∷ 7 ∷ 0 ∷ []))
 unfolding askBroadcastToShape
 e17 = refl
 
-e18 : askBroadcastToShape (nums (0 ∷ 0 ∷ 5 ∷ [])) (negsuc 0 ∷ []) 0 0 ≡ refused 1
+-- broadcastToShapeCall: refused 1
+e18 : askBroadcastToShape [] (nums (5 ∷ [])) 0 0 ≡ refused 1
 unfolding askBroadcastToShape
 e18 = refl
 
-e19 : askBroadcastToShape (nums (0 ∷ 0 ∷ 5 ∷ [])) (negsuc 0 ∷ []) 1802 10812 ≡ refused 1
+e19 : askBroadcastToShape [] (nums (5 ∷ [])) 1802 10812 ≡ refused 1
 unfolding askBroadcastToShape
 e19 = refl
 
-e20 : askBroadcastToShape (nums (0 ∷ 0 ∷ 0 ∷ 0 ∷ 0 ∷ 0 ∷ [])) (nums (5 ∷ [])) 1802 0 ≡ refused 1
+e20 : askBroadcastToShape (nums (0 ∷ 0 ∷ 5 ∷ [])) (negsuc 0 ∷ []) 0 0 ≡ refused 1
 unfolding askBroadcastToShape
 e20 = refl
 
--- broadcastToShapeCall: refused 11
-e21 : askBroadcastToShape (nums (1 ∷ 0 ∷ 1 ∷ 2 ∷ 0 ∷ 0 ∷ 0 ∷ [])) (nums (0 ∷ [])) 1802 10812 ≡ refused 11
+e21 : askBroadcastToShape (nums (0 ∷ 0 ∷ 5 ∷ [])) (negsuc 0 ∷ []) 1802 10812 ≡ refused 1
 unfolding askBroadcastToShape
 e21 = refl
 
--- broadcastToShapeCall: refused 12
-e22 : askBroadcastToShape (nums (1 ∷ 0 ∷ 2 ∷ 1 ∷ 1 ∷ 0 ∷ 0 ∷ 0 ∷ [])) (nums (2 ∷ 1 ∷ 2 ∷ [])) 1802 10812 ≡ refused 12
+e22 : askBroadcastToShape (nums (0 ∷ 0 ∷ 0 ∷ 0 ∷ 0 ∷ 0 ∷ [])) (nums (5 ∷ [])) 1802 0 ≡ refused 1
 unfolding askBroadcastToShape
 e22 = refl
 
--- broadcastToShapeCall: refused 13
-e23 : askBroadcastToShape (nums (2 ∷ 0 ∷ 1 ∷ 1 ∷ 1 ∷ 0 ∷ 0 ∷ 0 ∷ [])) (nums (1 ∷ 129 ∷ [])) 1802 10812 ≡ refused 13
+-- broadcastToShapeCall: refused 11
+e23 : askBroadcastToShape (nums (1 ∷ 0 ∷ 1 ∷ 2 ∷ 0 ∷ 0 ∷ 0 ∷ [])) (nums (0 ∷ [])) 1802 10812 ≡ refused 11
 unfolding askBroadcastToShape
 e23 = refl
 
-e24 : askBroadcastToShape (nums (0 ∷ 1 ∷ 1 ∷ 1 ∷ 0 ∷ 1 ∷ 0 ∷ 3 ∷ 1 ∷ 0 ∷ 0 ∷ [])) (nums (1 ∷ 129 ∷ [])) 1802 10812 ≡ refused 13
+-- broadcastToShapeCall: refused 12
+e24 : askBroadcastToShape (nums (1 ∷ 0 ∷ 2 ∷ 1 ∷ 1 ∷ 0 ∷ 0 ∷ 0 ∷ [])) (nums (2 ∷ 1 ∷ 2 ∷ [])) 1802 10812 ≡ refused 12
 unfolding askBroadcastToShape
 e24 = refl
 
--- broadcastToShapeCall: refused 2
-e25 : askBroadcastToShape [] (negsuc 0 ∷ []) 0 0 ≡ refused 2
+-- broadcastToShapeCall: refused 13
+e25 : askBroadcastToShape (nums (2 ∷ 0 ∷ 1 ∷ 1 ∷ 1 ∷ 0 ∷ 0 ∷ 0 ∷ [])) (nums (1 ∷ 129 ∷ [])) 1802 10812 ≡ refused 13
 unfolding askBroadcastToShape
 e25 = refl
 
-e26 : askBroadcastToShape (nums (0 ∷ 0 ∷ 0 ∷ 0 ∷ 0 ∷ 0 ∷ [])) (negsuc 0 ∷ []) 0 0 ≡ refused 2
+e26 : askBroadcastToShape (nums (0 ∷ 1 ∷ 1 ∷ 1 ∷ 0 ∷ 1 ∷ 0 ∷ 3 ∷ 1 ∷ 0 ∷ 0 ∷ [])) (nums (1 ∷ 129 ∷ [])) 1802 10812 ≡ refused 13
 unfolding askBroadcastToShape
 e26 = refl
 
-e27 : askBroadcastToShape (nums (2 ∷ 0 ∷ 0 ∷ 1 ∷ 0 ∷ 0 ∷ [])) (nums (0 ∷ [])) 0 10812 ≡ refused 2
+-- broadcastToShapeCall: refused 2
+e27 : askBroadcastToShape [] (negsuc 0 ∷ []) 0 0 ≡ refused 2
 unfolding askBroadcastToShape
 e27 = refl
 
-e28 : askBroadcastToShape (nums (0 ∷ 0 ∷ 0 ∷ 0 ∷ 0 ∷ 0 ∷ [])) (nums (0 ∷ [])) 1802 10811 ≡ refused 2
+e28 : askBroadcastToShape (nums (0 ∷ 0 ∷ 0 ∷ 0 ∷ 0 ∷ 0 ∷ [])) (negsuc 0 ∷ []) 0 0 ≡ refused 2
 unfolding askBroadcastToShape
 e28 = refl
 
-e29 : askBroadcastToShape (nums (1 ∷ 2 ∷ 2 ∷ 129 ∷ 129 ∷ 0 ∷ 0 ∷ 0 ∷ [])) (nums (0 ∷ [])) 1801 10813 ≡ refused 2
+e29 : askBroadcastToShape (nums (2 ∷ 0 ∷ 0 ∷ 1 ∷ 0 ∷ 0 ∷ [])) (nums (0 ∷ [])) 0 10812 ≡ refused 2
 unfolding askBroadcastToShape
 e29 = refl
 
-e30 : askBroadcastToShape (nums (2 ∷ 0 ∷ 0 ∷ 1 ∷ 0 ∷ 1 ∷ 2147483647 ∷ [])) (nums (0 ∷ [])) 1801 10811 ≡ refused 2
+e30 : askBroadcastToShape (nums (0 ∷ 0 ∷ 0 ∷ 0 ∷ 0 ∷ 0 ∷ [])) (nums (0 ∷ [])) 1802 10811 ≡ refused 2
 unfolding askBroadcastToShape
 e30 = refl
 
--- broadcastToShapeCall: refused 3
-e31 : askBroadcastToShape [] (negsuc 0 ∷ []) 1802 10812 ≡ refused 3
+e31 : askBroadcastToShape (nums (1 ∷ 2 ∷ 2 ∷ 129 ∷ 129 ∷ 0 ∷ 0 ∷ 0 ∷ [])) (nums (0 ∷ [])) 1801 10813 ≡ refused 2
 unfolding askBroadcastToShape
 e31 = refl
 
-e32 : askBroadcastToShape [] (nums (1 ∷ 1 ∷ [])) 1802 10812 ≡ refused 3
+e32 : askBroadcastToShape (nums (2 ∷ 0 ∷ 0 ∷ 1 ∷ 0 ∷ 1 ∷ 2147483647 ∷ [])) (nums (0 ∷ [])) 1801 10811 ≡ refused 2
 unfolding askBroadcastToShape
 e32 = refl
 
-e33 : askBroadcastToShape [] (nums (4 ∷ 2 ∷ 2 ∷ 2 ∷ 2 ∷ [])) 1802 10812 ≡ refused 3
+-- broadcastToShapeCall: refused 3
+e33 : askBroadcastToShape [] (negsuc 0 ∷ []) 1802 10812 ≡ refused 3
 unfolding askBroadcastToShape
 e33 = refl
 
--- broadcastToShapeCall: refused 5
-e34 : askBroadcastToShape (nums (0 ∷ 0 ∷ 0 ∷ 0 ∷ 0 ∷ 0 ∷ [])) [] 1802 10812 ≡ refused 5
+e34 : askBroadcastToShape [] (nums (1 ∷ 1 ∷ [])) 1802 10812 ≡ refused 3
 unfolding askBroadcastToShape
 e34 = refl
 
-e35 : askBroadcastToShape (nums (0 ∷ 0 ∷ 0 ∷ 0 ∷ 0 ∷ 0 ∷ [])) (negsuc 0 ∷ []) 1802 10812 ≡ refused 5
+e35 : askBroadcastToShape [] (nums (4 ∷ 2 ∷ 2 ∷ 2 ∷ 2 ∷ [])) 1802 10812 ≡ refused 3
 unfolding askBroadcastToShape
 e35 = refl
 
-e36 : askBroadcastToShape (nums (2 ∷ 0 ∷ 0 ∷ 1 ∷ 0 ∷ 0 ∷ [])) (nums (2 ∷ 65536 ∷ 2 ∷ [])) 1802 10812 ≡ refused 5
+-- broadcastToShapeCall: refused 5
+e36 : askBroadcastToShape (nums (0 ∷ 0 ∷ 0 ∷ 0 ∷ 0 ∷ 0 ∷ [])) [] 1802 10812 ≡ refused 5
 unfolding askBroadcastToShape
 e36 = refl
 
-e37 : askBroadcastToShape (nums (1 ∷ 0 ∷ 2 ∷ 3 ∷ 3 ∷ 0 ∷ 0 ∷ 0 ∷ [])) (pos 2 ∷ negsuc 2 ∷ pos 3 ∷ []) 1802 10813 ≡ refused 5
+e37 : askBroadcastToShape (nums (0 ∷ 0 ∷ 0 ∷ 0 ∷ 0 ∷ 0 ∷ [])) (negsuc 0 ∷ []) 1802 10812 ≡ refused 5
 unfolding askBroadcastToShape
 e37 = refl
 
--- broadcastToShapeCall: refused 6
-e38 : askBroadcastToShape (nums (0 ∷ 2 ∷ 2 ∷ 2 ∷ 1 ∷ 0 ∷ 0 ∷ 0 ∷ [])) (nums (2 ∷ 0 ∷ 1 ∷ [])) 1802 10812 ≡ refused 6
+e38 : askBroadcastToShape (nums (2 ∷ 0 ∷ 0 ∷ 1 ∷ 0 ∷ 0 ∷ [])) (nums (2 ∷ 65536 ∷ 2 ∷ [])) 1802 10812 ≡ refused 5
 unfolding askBroadcastToShape
 e38 = refl
 
-e39 : askBroadcastToShape (nums (1 ∷ 0 ∷ 2 ∷ 255 ∷ 255 ∷ 0 ∷ 0 ∷ 0 ∷ [])) (nums (1 ∷ 0 ∷ [])) 1802 10812 ≡ refused 6
+e39 : askBroadcastToShape (nums (1 ∷ 0 ∷ 2 ∷ 3 ∷ 3 ∷ 0 ∷ 0 ∷ 0 ∷ [])) (pos 2 ∷ negsuc 2 ∷ pos 3 ∷ []) 1802 10813 ≡ refused 5
 unfolding askBroadcastToShape
 e39 = refl
 
--- broadcastToRankCall: answered
-e40 : askBroadcastToRank (nums (2 ∷ 0 ∷ 0 ∷ 1 ∷ 0 ∷ 0 ∷ [])) (pos 0) 1802 10812 ≡ given (nums (2 ∷ 0 ∷ 0 ∷ 1 ∷ 0 ∷ 0 ∷ []))
-unfolding askBroadcastToRank
+-- broadcastToShapeCall: refused 6
+e40 : askBroadcastToShape (nums (0 ∷ 2 ∷ 2 ∷ 2 ∷ 1 ∷ 0 ∷ 0 ∷ 0 ∷ [])) (nums (2 ∷ 0 ∷ 1 ∷ [])) 1802 10812 ≡ refused 6
+unfolding askBroadcastToShape
 e40 = refl
 
-e41 : askBroadcastToRank (nums (0 ∷ 0 ∷ 0 ∷ 0 ∷ 0 ∷ 1 ∷ 3 ∷ [])) (pos 2) 2000 10813 ≡ given (nums (0 ∷ 2 ∷ 2 ∷ 1 ∷ 1 ∷ 0 ∷ 0 ∷ 1 ∷ 0 ∷ 0 ∷ 3 ∷ []))
-unfolding askBroadcastToRank
+e41 : askBroadcastToShape (nums (1 ∷ 0 ∷ 2 ∷ 255 ∷ 255 ∷ 0 ∷ 0 ∷ 0 ∷ [])) (nums (1 ∷ 0 ∷ [])) 1802 10812 ≡ refused 6
+unfolding askBroadcastToShape
 e41 = refl
 
-e42 : askBroadcastToRank (nums (0 ∷ 1 ∷ 1 ∷ 1 ∷ 0 ∷ 0 ∷ 0 ∷ [])) (pos 1) 1802 10812 ≡ given (nums (0 ∷ 1 ∷ 1 ∷ 1 ∷ 0 ∷ 0 ∷ 0 ∷ []))
+-- broadcastToRankCall: answered
+e42 : askBroadcastToRank (nums (2 ∷ 0 ∷ 0 ∷ 1 ∷ 0 ∷ 0 ∷ [])) (pos 0) 1802 10812 ≡ given (nums (2 ∷ 0 ∷ 0 ∷ 1 ∷ 0 ∷ 0 ∷ []))
 unfolding askBroadcastToRank
 e42 = refl
 
-e43 : askBroadcastToRank (nums (1 ∷ 0 ∷ 1 ∷ 1 ∷ 0 ∷ 0 ∷ 0 ∷ [])) (pos 1) 1802 20000 ≡ given (nums (1 ∷ 0 ∷ 1 ∷ 1 ∷ 0 ∷ 0 ∷ 0 ∷ []))
+e43 : askBroadcastToRank (nums (0 ∷ 0 ∷ 0 ∷ 0 ∷ 0 ∷ 1 ∷ 3 ∷ [])) (pos 2) 2000 10813 ≡ given (nums (0 ∷ 2 ∷ 2 ∷ 1 ∷ 1 ∷ 0 ∷ 0 ∷ 1 ∷ 0 ∷ 0 ∷ 3 ∷ []))
 unfolding askBroadcastToRank
 e43 = refl
 
-e44 : askBroadcastToRank (nums (2 ∷ 0 ∷ 1 ∷ 3 ∷ 0 ∷ 0 ∷ 0 ∷ [])) (pos 1) 1802 10812 ≡ given (nums (2 ∷ 0 ∷ 1 ∷ 3 ∷ 0 ∷ 0 ∷ 0 ∷ []))
+e44 : askBroadcastToRank (nums (0 ∷ 1 ∷ 1 ∷ 1 ∷ 0 ∷ 0 ∷ 0 ∷ [])) (pos 1) 1802 10812 ≡ given (nums (0 ∷ 1 ∷ 1 ∷ 1 ∷ 0 ∷ 0 ∷ 0 ∷ []))
 unfolding askBroadcastToRank
 e44 = refl
 
-e45 : askBroadcastToRank (nums (2 ∷ 1 ∷ 1 ∷ 0 ∷ 1 ∷ 0 ∷ 0 ∷ [])) (pos 1) 1802 10812 ≡ given (nums (2 ∷ 1 ∷ 1 ∷ 0 ∷ 1 ∷ 0 ∷ 0 ∷ []))
+e45 : askBroadcastToRank (nums (1 ∷ 0 ∷ 1 ∷ 1 ∷ 0 ∷ 0 ∷ 0 ∷ [])) (pos 1) 1802 20000 ≡ given (nums (1 ∷ 0 ∷ 1 ∷ 1 ∷ 0 ∷ 0 ∷ 0 ∷ []))
 unfolding askBroadcastToRank
 e45 = refl
 
-e46 : askBroadcastToRank (nums (0 ∷ 2 ∷ 2 ∷ 1 ∷ 1 ∷ 0 ∷ 0 ∷ 0 ∷ [])) (pos 0) 1802 10812 ≡ given (nums (0 ∷ 0 ∷ 0 ∷ 0 ∷ 0 ∷ 0 ∷ []))
+e46 : askBroadcastToRank (nums (2 ∷ 0 ∷ 1 ∷ 3 ∷ 0 ∷ 0 ∷ 0 ∷ [])) (pos 1) 1802 10812 ≡ given (nums (2 ∷ 0 ∷ 1 ∷ 3 ∷ 0 ∷ 0 ∷ 0 ∷ []))
 unfolding askBroadcastToRank
 e46 = refl
 
-e47 : askBroadcastToRank (nums (1 ∷ 0 ∷ 2 ∷ 2 ∷ 2 ∷ 0 ∷ 0 ∷ 0 ∷ [])) (pos 2) 1802 10812 ≡ given (nums (1 ∷ 0 ∷ 2 ∷ 2 ∷ 2 ∷ 0 ∷ 0 ∷ 0 ∷ []))
+e47 : askBroadcastToRank (nums (2 ∷ 1 ∷ 1 ∷ 0 ∷ 1 ∷ 0 ∷ 0 ∷ [])) (pos 1) 1802 10812 ≡ given (nums (2 ∷ 1 ∷ 1 ∷ 0 ∷ 1 ∷ 0 ∷ 0 ∷ []))
 unfolding askBroadcastToRank
 e47 = refl
 
-e48 : askBroadcastToRank (nums (1 ∷ 1 ∷ 2 ∷ 1 ∷ 1 ∷ 0 ∷ 0 ∷ 0 ∷ [])) (pos 2) 1802 10812 ≡ given (nums (1 ∷ 1 ∷ 2 ∷ 1 ∷ 1 ∷ 0 ∷ 0 ∷ 0 ∷ []))
+e48 : askBroadcastToRank (nums (0 ∷ 2 ∷ 2 ∷ 1 ∷ 1 ∷ 0 ∷ 0 ∷ 0 ∷ [])) (pos 0) 1802 10812 ≡ given (nums (0 ∷ 0 ∷ 0 ∷ 0 ∷ 0 ∷ 0 ∷ []))
 unfolding askBroadcastToRank
 e48 = refl
 
-e49 : askBroadcastToRank (nums (2 ∷ 0 ∷ 2 ∷ 0 ∷ 0 ∷ 0 ∷ 0 ∷ 0 ∷ [])) (pos 2) 1802 20000 ≡ given (nums (2 ∷ 0 ∷ 2 ∷ 0 ∷ 0 ∷ 0 ∷ 0 ∷ 0 ∷ []))
+e49 : askBroadcastToRank (nums (1 ∷ 0 ∷ 2 ∷ 2 ∷ 2 ∷ 0 ∷ 0 ∷ 0 ∷ [])) (pos 2) 1802 10812 ≡ given (nums (1 ∷ 0 ∷ 2 ∷ 2 ∷ 2 ∷ 0 ∷ 0 ∷ 0 ∷ []))
 unfolding askBroadcastToRank
 e49 = refl
 
-e50 : askBroadcastToRank (nums (2 ∷ 1 ∷ 2 ∷ 4 ∷ 4 ∷ 0 ∷ 0 ∷ 0 ∷ [])) (pos 2) 1802 10812 ≡ given (nums (2 ∷ 1 ∷ 2 ∷ 4 ∷ 4 ∷ 0 ∷ 0 ∷ 0 ∷ []))
+e50 : askBroadcastToRank (nums (1 ∷ 1 ∷ 2 ∷ 1 ∷ 1 ∷ 0 ∷ 0 ∷ 0 ∷ [])) (pos 2) 1802 10812 ≡ given (nums (1 ∷ 1 ∷ 2 ∷ 1 ∷ 1 ∷ 0 ∷ 0 ∷ 0 ∷ []))
 unfolding askBroadcastToRank
 e50 = refl
 
-e51 : askBroadcastToRank (nums (2 ∷ 2 ∷ 2 ∷ 1 ∷ 1 ∷ 1 ∷ 0 ∷ 0 ∷ [])) (pos 1) 1802 10812 ≡ given (nums (2 ∷ 1 ∷ 1 ∷ 1 ∷ 1 ∷ 0 ∷ 0 ∷ []))
+e51 : askBroadcastToRank (nums (2 ∷ 0 ∷ 2 ∷ 0 ∷ 0 ∷ 0 ∷ 0 ∷ 0 ∷ [])) (pos 2) 1802 20000 ≡ given (nums (2 ∷ 0 ∷ 2 ∷ 0 ∷ 0 ∷ 0 ∷ 0 ∷ 0 ∷ []))
 unfolding askBroadcastToRank
 e51 = refl
 
-e52 : askBroadcastToRank (nums (0 ∷ 3 ∷ 3 ∷ 1 ∷ 1 ∷ 1 ∷ 0 ∷ 0 ∷ 0 ∷ [])) (pos 1) 1802 10812 ≡ given (nums (0 ∷ 1 ∷ 1 ∷ 1 ∷ 0 ∷ 0 ∷ 0 ∷ []))
+e52 : askBroadcastToRank (nums (2 ∷ 1 ∷ 2 ∷ 4 ∷ 4 ∷ 0 ∷ 0 ∷ 0 ∷ [])) (pos 2) 1802 10812 ≡ given (nums (2 ∷ 1 ∷ 2 ∷ 4 ∷ 4 ∷ 0 ∷ 0 ∷ 0 ∷ []))
 unfolding askBroadcastToRank
 e52 = refl
 
-e53 : askBroadcastToRank (nums (0 ∷ 4 ∷ 4 ∷ 1 ∷ 1 ∷ 1 ∷ 1 ∷ 0 ∷ 0 ∷ 0 ∷ [])) (pos 0) 1803 10812 ≡ given (nums (0 ∷ 0 ∷ 0 ∷ 0 ∷ 0 ∷ 0 ∷ []))
+e53 : askBroadcastToRank (nums (2 ∷ 2 ∷ 2 ∷ 1 ∷ 1 ∷ 1 ∷ 0 ∷ 0 ∷ [])) (pos 1) 1802 10812 ≡ given (nums (2 ∷ 1 ∷ 1 ∷ 1 ∷ 1 ∷ 0 ∷ 0 ∷ []))
 unfolding askBroadcastToRank
 e53 = refl
 
-e54 : askBroadcastToRank (nums (2 ∷ 4 ∷ 4 ∷ 1 ∷ 1 ∷ 1 ∷ 1 ∷ 1 ∷ 0 ∷ 0 ∷ [])) (pos 0) 1802 10812 ≡ given (nums (2 ∷ 0 ∷ 0 ∷ 1 ∷ 0 ∷ 0 ∷ []))
+e54 : askBroadcastToRank (nums (0 ∷ 3 ∷ 3 ∷ 1 ∷ 1 ∷ 1 ∷ 0 ∷ 0 ∷ 0 ∷ [])) (pos 1) 1802 10812 ≡ given (nums (0 ∷ 1 ∷ 1 ∷ 1 ∷ 0 ∷ 0 ∷ 0 ∷ []))
 unfolding askBroadcastToRank
 e54 = refl
 
--- broadcastToRankCall: refused 1
-e55 : askBroadcastToRank [] (pos 5) 0 0 ≡ refused 1
+e55 : askBroadcastToRank (nums (0 ∷ 4 ∷ 4 ∷ 1 ∷ 1 ∷ 1 ∷ 1 ∷ 0 ∷ 0 ∷ 0 ∷ [])) (pos 0) 1803 10812 ≡ given (nums (0 ∷ 0 ∷ 0 ∷ 0 ∷ 0 ∷ 0 ∷ []))
 unfolding askBroadcastToRank
 e55 = refl
 
-e56 : askBroadcastToRank [] (pos 5) 1802 10812 ≡ refused 1
+e56 : askBroadcastToRank (nums (2 ∷ 4 ∷ 4 ∷ 1 ∷ 1 ∷ 1 ∷ 1 ∷ 1 ∷ 0 ∷ 0 ∷ [])) (pos 0) 1802 10812 ≡ given (nums (2 ∷ 0 ∷ 0 ∷ 1 ∷ 0 ∷ 0 ∷ []))
 unfolding askBroadcastToRank
 e56 = refl
 
-e57 : askBroadcastToRank (nums (0 ∷ 0 ∷ 5 ∷ [])) (negsuc 0) 0 0 ≡ refused 1
+-- broadcastToRankCall: refused 1
+e57 : askBroadcastToRank [] (pos 5) 0 0 ≡ refused 1
 unfolding askBroadcastToRank
 e57 = refl
 
-e58 : askBroadcastToRank (nums (0 ∷ 0 ∷ 5 ∷ [])) (negsuc 0) 1802 10812 ≡ refused 1
+e58 : askBroadcastToRank [] (pos 5) 1802 10812 ≡ refused 1
 unfolding askBroadcastToRank
 e58 = refl
 
-e59 : askBroadcastToRank (nums (0 ∷ 0 ∷ 0 ∷ 0 ∷ 0 ∷ 0 ∷ [])) (pos 5) 1802 10812 ≡ refused 1
+e59 : askBroadcastToRank (nums (0 ∷ 0 ∷ 5 ∷ [])) (negsuc 0) 0 0 ≡ refused 1
 unfolding askBroadcastToRank
 e59 = refl
 
--- broadcastToRankCall: refused 11
-e60 : askBroadcastToRank (nums (1 ∷ 0 ∷ 1 ∷ 1 ∷ 0 ∷ 0 ∷ 0 ∷ [])) (pos 0) 1802 10812 ≡ refused 11
+e60 : askBroadcastToRank (nums (0 ∷ 0 ∷ 5 ∷ [])) (negsuc 0) 1802 10812 ≡ refused 1
 unfolding askBroadcastToRank
 e60 = refl
 
--- broadcastToRankCall: refused 2
-e61 : askBroadcastToRank [] (negsuc 0) 0 0 ≡ refused 2
+e61 : askBroadcastToRank (nums (0 ∷ 0 ∷ 0 ∷ 0 ∷ 0 ∷ 0 ∷ [])) (pos 5) 1802 10812 ≡ refused 1
 unfolding askBroadcastToRank
 e61 = refl
 
-e62 : askBroadcastToRank [] (pos 3) 0 10812 ≡ refused 2
+-- broadcastToRankCall: refused 11
+e62 : askBroadcastToRank (nums (1 ∷ 0 ∷ 1 ∷ 1 ∷ 0 ∷ 0 ∷ 0 ∷ [])) (pos 0) 1802 10812 ≡ refused 11
 unfolding askBroadcastToRank
 e62 = refl
 
-e63 : askBroadcastToRank (nums (0 ∷ 0 ∷ 0 ∷ 0 ∷ 0 ∷ 0 ∷ [])) (negsuc 0) 0 0 ≡ refused 2
+-- broadcastToRankCall: refused 2
+e63 : askBroadcastToRank [] (negsuc 0) 0 0 ≡ refused 2
 unfolding askBroadcastToRank
 e63 = refl
 
--- broadcastToRankCall: refused 3
-e64 : askBroadcastToRank [] (negsuc 0) 1802 10812 ≡ refused 3
+e64 : askBroadcastToRank [] (pos 3) 0 10812 ≡ refused 2
 unfolding askBroadcastToRank
 e64 = refl
 
-e65 : askBroadcastToRank (nums (0 ∷ [])) (pos 4) 1802 10812 ≡ refused 3
+e65 : askBroadcastToRank (nums (0 ∷ 0 ∷ 0 ∷ 0 ∷ 0 ∷ 0 ∷ [])) (negsuc 0) 0 0 ≡ refused 2
 unfolding askBroadcastToRank
 e65 = refl
 
--- broadcastToRankCall: refused 5
-e66 : askBroadcastToRank (nums (0 ∷ 0 ∷ 0 ∷ 0 ∷ 0 ∷ 0 ∷ [])) (negsuc 0) 1802 10812 ≡ refused 5
+-- broadcastToRankCall: refused 3
+e66 : askBroadcastToRank [] (negsuc 0) 1802 10812 ≡ refused 3
 unfolding askBroadcastToRank
 e66 = refl
 
-e67 : askBroadcastToRank (nums (1 ∷ 0 ∷ 1 ∷ 2 ∷ 0 ∷ 0 ∷ 0 ∷ [])) (negsuc 2147483647) 1802 10812 ≡ refused 5
+e67 : askBroadcastToRank (nums (0 ∷ [])) (pos 4) 1802 10812 ≡ refused 3
 unfolding askBroadcastToRank
 e67 = refl
 
--- broadcastToRankCall: refused 6
-e68 : askBroadcastToRank (nums (2 ∷ 0 ∷ 2 ∷ 1 ∷ 2 ∷ 0 ∷ 0 ∷ 0 ∷ [])) (pos 1) 1802 10812 ≡ refused 6
+-- broadcastToRankCall: refused 5
+e68 : askBroadcastToRank (nums (0 ∷ 0 ∷ 0 ∷ 0 ∷ 0 ∷ 0 ∷ [])) (negsuc 0) 1802 10812 ≡ refused 5
 unfolding askBroadcastToRank
 e68 = refl
+
+e69 : askBroadcastToRank (nums (1 ∷ 0 ∷ 1 ∷ 2 ∷ 0 ∷ 0 ∷ 0 ∷ [])) (negsuc 2147483647) 1802 10812 ≡ refused 5
+unfolding askBroadcastToRank
+e69 = refl
+
+-- broadcastToRankCall: refused 6
+e70 : askBroadcastToRank (nums (2 ∷ 0 ∷ 2 ∷ 1 ∷ 2 ∷ 0 ∷ 0 ∷ 0 ∷ [])) (pos 1) 1802 10812 ≡ refused 6
+unfolding askBroadcastToRank
+e70 = refl
