@@ -84,225 +84,249 @@ e18 : askConcatenate (nums (1 ∷ 1 ∷ 2 ∷ 0 ∷ 1 ∷ 1 ∷ 1 ∷ 0 ∷ 0 �
 unfolding askConcatenate
 e18 = refl
 
-e19 : askConcatenate (nums (0 ∷ 0 ∷ 0 ∷ 1 ∷ 1 ∷ 1 ∷ 0 ∷ 0 ∷ 0 ∷ 1 ∷ 0 ∷ 0 ∷ 1 ∷ 1 ∷ 3 ∷ 0 ∷ 0 ∷ 0 ∷ [])) (pos 2) (pos 1) 1802 10812 ≡ given (nums (0 ∷ 1 ∷ 1 ∷ 4 ∷ 0 ∷ 0 ∷ 0 ∷ []))
+e19 : askConcatenate (nums (65536 ∷ 1 ∷ 2 ∷ 0 ∷ 1 ∷ 0 ∷ 0 ∷ 0 ∷ 0 ∷ [])) (pos 1) (pos 1) 1802 10812 ≡ given (nums (2 ∷ 0 ∷ 1 ∷ 65536 ∷ 0 ∷ 0 ∷ 0 ∷ []))
 unfolding askConcatenate
 e19 = refl
 
-e20 : askConcatenate (nums (0 ∷ 0 ∷ 1 ∷ 0 ∷ 1 ∷ 0 ∷ 0 ∷ 0 ∷ 0 ∷ 0 ∷ 0 ∷ 1 ∷ 0 ∷ 1 ∷ 1 ∷ 0 ∷ 0 ∷ 0 ∷ [])) (pos 2) (pos 1) 1802 10812 ≡ given (nums (1 ∷ 0 ∷ 1 ∷ 1 ∷ 0 ∷ 0 ∷ 0 ∷ []))
+e20 : askConcatenate (nums (1 ∷ 0 ∷ 0 ∷ 1 ∷ 1 ∷ 1 ∷ 0 ∷ 1 ∷ 65534 ∷ 2 ∷ 0 ∷ [])) (pos 1) (pos 1) 1802 10812 ≡ given (nums (2 ∷ 0 ∷ 1 ∷ 2 ∷ 1 ∷ 1 ∷ 1 ∷ 65535 ∷ 2 ∷ 0 ∷ []))
 unfolding askConcatenate
 e20 = refl
 
-e21 : askConcatenate (nums (0 ∷ 0 ∷ 2 ∷ 0 ∷ 1 ∷ 1 ∷ 0 ∷ 0 ∷ 0 ∷ 1 ∷ 0 ∷ 2 ∷ 0 ∷ 1 ∷ 1 ∷ 0 ∷ 0 ∷ 0 ∷ [])) (pos 2) (pos 1) 1802 10812 ≡ given (nums (1 ∷ 0 ∷ 1 ∷ 2 ∷ 0 ∷ 0 ∷ 0 ∷ []))
+e21 : askConcatenate (nums (0 ∷ 0 ∷ 0 ∷ 1 ∷ 1 ∷ 1 ∷ 0 ∷ 0 ∷ 0 ∷ 1 ∷ 0 ∷ 0 ∷ 1 ∷ 1 ∷ 3 ∷ 0 ∷ 0 ∷ 0 ∷ [])) (pos 2) (pos 1) 1802 10812 ≡ given (nums (0 ∷ 1 ∷ 1 ∷ 4 ∷ 0 ∷ 0 ∷ 0 ∷ []))
 unfolding askConcatenate
 e21 = refl
 
-e22 : askConcatenate (nums (0 ∷ 0 ∷ 1 ∷ 0 ∷ 1 ∷ 1 ∷ 0 ∷ 0 ∷ 0 ∷ 0 ∷ 0 ∷ 0 ∷ 1 ∷ 1 ∷ 128 ∷ 0 ∷ 0 ∷ 0 ∷ [])) (pos 2) (pos 1) 1802 10812 ≡ given (nums (0 ∷ 1 ∷ 1 ∷ 128 ∷ 0 ∷ 0 ∷ 0 ∷ []))
+e22 : askConcatenate (nums (0 ∷ 0 ∷ 1 ∷ 0 ∷ 1 ∷ 0 ∷ 0 ∷ 0 ∷ 0 ∷ 0 ∷ 0 ∷ 1 ∷ 0 ∷ 1 ∷ 1 ∷ 0 ∷ 0 ∷ 0 ∷ [])) (pos 2) (pos 1) 1802 10812 ≡ given (nums (1 ∷ 0 ∷ 1 ∷ 1 ∷ 0 ∷ 0 ∷ 0 ∷ []))
 unfolding askConcatenate
 e22 = refl
 
-e23 : askConcatenate (nums (0 ∷ 1 ∷ 1 ∷ 0 ∷ 1 ∷ 2 ∷ 0 ∷ 0 ∷ 0 ∷ 2 ∷ 0 ∷ 0 ∷ 1 ∷ 1 ∷ 2 ∷ 0 ∷ 1 ∷ 0 ∷ 1 ∷ 0 ∷ [])) (pos 2) (pos 1) 1802 10812 ≡ given (nums (2 ∷ 0 ∷ 1 ∷ 4 ∷ 2 ∷ 2 ∷ 3 ∷ 1 ∷ 2 ∷ 1 ∷ 0 ∷ []))
+e23 : askConcatenate (nums (0 ∷ 0 ∷ 2 ∷ 0 ∷ 1 ∷ 1 ∷ 0 ∷ 0 ∷ 0 ∷ 1 ∷ 0 ∷ 2 ∷ 0 ∷ 1 ∷ 1 ∷ 0 ∷ 0 ∷ 0 ∷ [])) (pos 2) (pos 1) 1802 10812 ≡ given (nums (1 ∷ 0 ∷ 1 ∷ 2 ∷ 0 ∷ 0 ∷ 0 ∷ []))
 unfolding askConcatenate
 e23 = refl
 
-e24 : askConcatenate (nums (0 ∷ 0 ∷ 0 ∷ 0 ∷ 2 ∷ 2 ∷ 0 ∷ 3 ∷ 0 ∷ 0 ∷ 0 ∷ 0 ∷ 0 ∷ 0 ∷ 0 ∷ 2 ∷ 2 ∷ 2 ∷ 1 ∷ 0 ∷ 0 ∷ 0 ∷ [])) (pos 2) (pos 2) 1802 10812 ≡ given (nums (0 ∷ 2 ∷ 2 ∷ 2 ∷ 3 ∷ 0 ∷ 0 ∷ 0 ∷ []))
+e24 : askConcatenate (nums (0 ∷ 0 ∷ 1 ∷ 0 ∷ 1 ∷ 1 ∷ 0 ∷ 0 ∷ 0 ∷ 0 ∷ 0 ∷ 0 ∷ 1 ∷ 1 ∷ 128 ∷ 0 ∷ 0 ∷ 0 ∷ [])) (pos 2) (pos 1) 1802 10812 ≡ given (nums (0 ∷ 1 ∷ 1 ∷ 128 ∷ 0 ∷ 0 ∷ 0 ∷ []))
 unfolding askConcatenate
 e24 = refl
 
-e25 : askConcatenate (nums (0 ∷ 0 ∷ 0 ∷ 0 ∷ 2 ∷ 2 ∷ 1 ∷ 2 ∷ 0 ∷ 0 ∷ 0 ∷ 1 ∷ 0 ∷ 0 ∷ 0 ∷ 2 ∷ 2 ∷ 1 ∷ 2 ∷ 0 ∷ 0 ∷ 0 ∷ [])) (pos 2) (pos 2) 1802 10812 ≡ given (nums (0 ∷ 2 ∷ 2 ∷ 2 ∷ 2 ∷ 0 ∷ 0 ∷ 0 ∷ []))
+e25 : askConcatenate (nums (0 ∷ 1 ∷ 1 ∷ 0 ∷ 1 ∷ 2 ∷ 0 ∷ 0 ∷ 0 ∷ 2 ∷ 0 ∷ 0 ∷ 1 ∷ 1 ∷ 2 ∷ 0 ∷ 1 ∷ 0 ∷ 1 ∷ 0 ∷ [])) (pos 2) (pos 1) 1802 10812 ≡ given (nums (2 ∷ 0 ∷ 1 ∷ 4 ∷ 2 ∷ 2 ∷ 3 ∷ 1 ∷ 2 ∷ 1 ∷ 0 ∷ []))
 unfolding askConcatenate
 e25 = refl
 
-e26 : askConcatenate (nums (0 ∷ 0 ∷ 0 ∷ 0 ∷ 2 ∷ 2 ∷ 1 ∷ 2 ∷ 0 ∷ 0 ∷ 0 ∷ 1 ∷ 1 ∷ 0 ∷ 0 ∷ 2 ∷ 2 ∷ 1 ∷ 2 ∷ 0 ∷ 0 ∷ 0 ∷ [])) (pos 2) (pos 2) 1802 10812 ≡ given (nums (2 ∷ 0 ∷ 2 ∷ 2 ∷ 3 ∷ 4 ∷ 0 ∷ 0 ∷ 0 ∷ 1 ∷ 1 ∷ 1 ∷ 1 ∷ 2 ∷ 0 ∷ 0 ∷ []))
+e26 : askConcatenate (nums (0 ∷ 0 ∷ 0 ∷ 0 ∷ 2 ∷ 2 ∷ 0 ∷ 3 ∷ 0 ∷ 0 ∷ 0 ∷ 0 ∷ 0 ∷ 0 ∷ 0 ∷ 2 ∷ 2 ∷ 2 ∷ 1 ∷ 0 ∷ 0 ∷ 0 ∷ [])) (pos 2) (pos 2) 1802 10812 ≡ given (nums (0 ∷ 2 ∷ 2 ∷ 2 ∷ 3 ∷ 0 ∷ 0 ∷ 0 ∷ []))
 unfolding askConcatenate
 e26 = refl
 
-e27 : askConcatenate (nums (0 ∷ 0 ∷ 0 ∷ 0 ∷ 2 ∷ 2 ∷ 2 ∷ 1 ∷ 0 ∷ 0 ∷ 0 ∷ 2 ∷ 0 ∷ 0 ∷ 0 ∷ 2 ∷ 2 ∷ 1 ∷ 3 ∷ 0 ∷ 0 ∷ 0 ∷ [])) (pos 2) (pos 2) 1802 10812 ≡ given (nums (0 ∷ 2 ∷ 2 ∷ 3 ∷ 3 ∷ 0 ∷ 0 ∷ 0 ∷ []))
+e27 : askConcatenate (nums (0 ∷ 0 ∷ 0 ∷ 0 ∷ 2 ∷ 2 ∷ 1 ∷ 2 ∷ 0 ∷ 0 ∷ 0 ∷ 1 ∷ 0 ∷ 0 ∷ 0 ∷ 2 ∷ 2 ∷ 1 ∷ 2 ∷ 0 ∷ 0 ∷ 0 ∷ [])) (pos 2) (pos 2) 1802 10812 ≡ given (nums (0 ∷ 2 ∷ 2 ∷ 2 ∷ 2 ∷ 0 ∷ 0 ∷ 0 ∷ []))
 unfolding askConcatenate
 e27 = refl
 
-e28 : askConcatenate (nums (0 ∷ 0 ∷ 0 ∷ 1 ∷ 0 ∷ 2 ∷ 2 ∷ 2 ∷ 0 ∷ 0 ∷ 0 ∷ 2 ∷ 2 ∷ 0 ∷ 1 ∷ 0 ∷ 2 ∷ 1 ∷ 1 ∷ 0 ∷ 0 ∷ 0 ∷ [])) (pos 2) (pos 2) 1802 10812 ≡ given (nums (1 ∷ 0 ∷ 2 ∷ 3 ∷ 3 ∷ 0 ∷ 0 ∷ 0 ∷ []))
+e28 : askConcatenate (nums (0 ∷ 0 ∷ 0 ∷ 0 ∷ 2 ∷ 2 ∷ 1 ∷ 2 ∷ 0 ∷ 0 ∷ 0 ∷ 1 ∷ 1 ∷ 0 ∷ 0 ∷ 2 ∷ 2 ∷ 1 ∷ 2 ∷ 0 ∷ 0 ∷ 0 ∷ [])) (pos 2) (pos 2) 1802 10812 ≡ given (nums (2 ∷ 0 ∷ 2 ∷ 2 ∷ 3 ∷ 4 ∷ 0 ∷ 0 ∷ 0 ∷ 1 ∷ 1 ∷ 1 ∷ 1 ∷ 2 ∷ 0 ∷ 0 ∷ []))
 unfolding askConcatenate
 e28 = refl
 
-e29 : askConcatenate (nums (0 ∷ 0 ∷ 0 ∷ 2 ∷ 1 ∷ 2 ∷ 1 ∷ 2 ∷ 1 ∷ 0 ∷ 0 ∷ 0 ∷ 1 ∷ 0 ∷ 0 ∷ 2 ∷ 1 ∷ 2 ∷ 2 ∷ 2 ∷ 1 ∷ 1 ∷ 0 ∷ 0 ∷ [])) (pos 2) (pos 2) 1802 10812 ≡ given (nums (2 ∷ 1 ∷ 2 ∷ 3 ∷ 2 ∷ 2 ∷ 0 ∷ 2 ∷ 0 ∷ 0 ∷ []))
+e29 : askConcatenate (nums (0 ∷ 0 ∷ 0 ∷ 0 ∷ 2 ∷ 2 ∷ 2 ∷ 1 ∷ 0 ∷ 0 ∷ 0 ∷ 2 ∷ 0 ∷ 0 ∷ 0 ∷ 2 ∷ 2 ∷ 1 ∷ 3 ∷ 0 ∷ 0 ∷ 0 ∷ [])) (pos 2) (pos 2) 1802 10812 ≡ given (nums (0 ∷ 2 ∷ 2 ∷ 3 ∷ 3 ∷ 0 ∷ 0 ∷ 0 ∷ []))
 unfolding askConcatenate
 e29 = refl
 
-e30 : askConcatenate (nums (0 ∷ 0 ∷ 0 ∷ 2 ∷ 0 ∷ 2 ∷ 2 ∷ 2 ∷ 1 ∷ 0 ∷ 1 ∷ 0 ∷ 0 ∷ 3 ∷ 1 ∷ 1 ∷ 2 ∷ 0 ∷ 2 ∷ 1 ∷ 2 ∷ 1 ∷ 0 ∷ 0 ∷ 0 ∷ 0 ∷ [])) (pos 2) (pos 2) 1802 10812 ≡ given (nums (2 ∷ 0 ∷ 2 ∷ 4 ∷ 3 ∷ 1 ∷ 0 ∷ 1 ∷ 0 ∷ 0 ∷ []))
+e30 : askConcatenate (nums (0 ∷ 0 ∷ 0 ∷ 1 ∷ 0 ∷ 2 ∷ 2 ∷ 2 ∷ 0 ∷ 0 ∷ 0 ∷ 2 ∷ 2 ∷ 0 ∷ 1 ∷ 0 ∷ 2 ∷ 1 ∷ 1 ∷ 0 ∷ 0 ∷ 0 ∷ [])) (pos 2) (pos 2) 1802 10812 ≡ given (nums (1 ∷ 0 ∷ 2 ∷ 3 ∷ 3 ∷ 0 ∷ 0 ∷ 0 ∷ []))
 unfolding askConcatenate
 e30 = refl
 
--- concatenateCall: refused 1
-e31 : askConcatenate (nums (0 ∷ 2 ∷ [])) (pos 1) (pos 5) 0 0 ≡ refused 1
+e31 : askConcatenate (nums (0 ∷ 0 ∷ 0 ∷ 1 ∷ 1 ∷ 32768 ∷ 0 ∷ 0 ∷ 0 ∷ 32768 ∷ 0 ∷ 0 ∷ 1 ∷ 1 ∷ 32768 ∷ 0 ∷ 0 ∷ 0 ∷ [])) (pos 2) (pos 1) 1802 10812 ≡ given (nums (0 ∷ 1 ∷ 1 ∷ 65536 ∷ 0 ∷ 0 ∷ 0 ∷ []))
 unfolding askConcatenate
 e31 = refl
 
-e32 : askConcatenate (nums (0 ∷ 2 ∷ [])) (pos 17) (pos 1) 0 0 ≡ refused 1
+e32 : askConcatenate (nums (0 ∷ 0 ∷ 0 ∷ 2 ∷ 1 ∷ 2 ∷ 1 ∷ 2 ∷ 1 ∷ 0 ∷ 0 ∷ 0 ∷ 1 ∷ 0 ∷ 0 ∷ 2 ∷ 1 ∷ 2 ∷ 2 ∷ 2 ∷ 1 ∷ 1 ∷ 0 ∷ 0 ∷ [])) (pos 2) (pos 2) 1802 10812 ≡ given (nums (2 ∷ 1 ∷ 2 ∷ 3 ∷ 2 ∷ 2 ∷ 0 ∷ 2 ∷ 0 ∷ 0 ∷ []))
 unfolding askConcatenate
 e32 = refl
 
-e33 : askConcatenate [] (negsuc 0) (pos 3) 1802 10812 ≡ refused 1
+e33 : askConcatenate (nums (0 ∷ 0 ∷ 0 ∷ 2 ∷ 0 ∷ 2 ∷ 2 ∷ 2 ∷ 1 ∷ 0 ∷ 1 ∷ 0 ∷ 0 ∷ 3 ∷ 1 ∷ 1 ∷ 2 ∷ 0 ∷ 2 ∷ 1 ∷ 2 ∷ 1 ∷ 0 ∷ 0 ∷ 0 ∷ 0 ∷ [])) (pos 2) (pos 2) 1802 10812 ≡ given (nums (2 ∷ 0 ∷ 2 ∷ 4 ∷ 3 ∷ 1 ∷ 0 ∷ 1 ∷ 0 ∷ 0 ∷ []))
 unfolding askConcatenate
 e33 = refl
 
-e34 : askConcatenate (nums (0 ∷ 2 ∷ [])) (pos 1) (pos 5) 1802 10812 ≡ refused 1
+-- concatenateCall: refused 1
+e34 : askConcatenate (nums (0 ∷ 2 ∷ [])) (pos 1) (pos 5) 0 0 ≡ refused 1
 unfolding askConcatenate
 e34 = refl
 
-e35 : askConcatenate (nums (0 ∷ 2 ∷ [])) (pos 17) (pos 1) 1802 10812 ≡ refused 1
+e35 : askConcatenate (nums (0 ∷ 2 ∷ [])) (pos 17) (pos 1) 0 0 ≡ refused 1
 unfolding askConcatenate
 e35 = refl
 
-e36 : askConcatenate [] (negsuc 2147483647) (pos 2) 1802 10812 ≡ refused 1
+e36 : askConcatenate [] (negsuc 0) (pos 3) 1802 10812 ≡ refused 1
 unfolding askConcatenate
 e36 = refl
 
-e37 : askConcatenate (nums (1 ∷ 0 ∷ 1 ∷ 0 ∷ 7 ∷ 128 ∷ 0 ∷ 0 ∷ 0 ∷ [])) (pos 1) (pos 1) 1802 10812 ≡ refused 1
+e37 : askConcatenate (nums (0 ∷ 2 ∷ [])) (pos 1) (pos 5) 1802 10812 ≡ refused 1
 unfolding askConcatenate
 e37 = refl
 
-e38 : askConcatenate (nums (1 ∷ 0 ∷ 2 ∷ 1 ∷ 1 ∷ 2 ∷ 0 ∷ 0 ∷ 0 ∷ [])) (pos 2147483647) (pos 1) 10812 10812 ≡ refused 1
+e38 : askConcatenate (nums (0 ∷ 2 ∷ [])) (pos 17) (pos 1) 1802 10812 ≡ refused 1
 unfolding askConcatenate
 e38 = refl
 
-e39 : askConcatenate (nums (0 ∷ 0 ∷ 2 ∷ 0 ∷ 2 ∷ 2 ∷ 0 ∷ 3 ∷ 0 ∷ 0 ∷ 2 ∷ 0 ∷ 0 ∷ 1 ∷ 0 ∷ 1 ∷ 1 ∷ [])) (pos 1) (pos 5) 1801 10812 ≡ refused 1
+e39 : askConcatenate [] (negsuc 2147483647) (pos 2) 1802 10812 ≡ refused 1
 unfolding askConcatenate
 e39 = refl
 
--- concatenateCall: refused 10
-e40 : askConcatenate (nums (0 ∷ 0 ∷ 0 ∷ 0 ∷ 2 ∷ 2 ∷ 1 ∷ 0 ∷ 0 ∷ 0 ∷ 0 ∷ [])) (pos 1) (pos 2) 1802 10812 ≡ refused 10
+e40 : askConcatenate (nums (1 ∷ 0 ∷ 1 ∷ 0 ∷ 7 ∷ 128 ∷ 0 ∷ 0 ∷ 0 ∷ [])) (pos 1) (pos 1) 1802 10812 ≡ refused 1
 unfolding askConcatenate
 e40 = refl
 
-e41 : askConcatenate (nums (1 ∷ 0 ∷ 1 ∷ 1 ∷ 1 ∷ 2 ∷ 1 ∷ 1 ∷ 0 ∷ 0 ∷ 0 ∷ [])) (pos 1) (pos 2) 1802 10812 ≡ refused 10
+e41 : askConcatenate (nums (1 ∷ 0 ∷ 2 ∷ 1 ∷ 1 ∷ 2 ∷ 0 ∷ 0 ∷ 0 ∷ [])) (pos 2147483647) (pos 1) 10812 10812 ≡ refused 1
 unfolding askConcatenate
 e41 = refl
 
-e42 : askConcatenate (nums (0 ∷ 0 ∷ 0 ∷ 0 ∷ 0 ∷ 0 ∷ 0 ∷ 0 ∷ 0 ∷ 0 ∷ 0 ∷ 0 ∷ 0 ∷ 0 ∷ 0 ∷ 0 ∷ [])) (pos 2) (pos 1) 1802 10812 ≡ refused 10
+e42 : askConcatenate (nums (0 ∷ 0 ∷ 2 ∷ 0 ∷ 2 ∷ 2 ∷ 0 ∷ 3 ∷ 0 ∷ 0 ∷ 2 ∷ 0 ∷ 0 ∷ 1 ∷ 0 ∷ 1 ∷ 1 ∷ [])) (pos 1) (pos 5) 1801 10812 ≡ refused 1
 unfolding askConcatenate
 e42 = refl
 
-e43 : askConcatenate (nums (1 ∷ 0 ∷ 0 ∷ 0 ∷ 0 ∷ 0 ∷ 0 ∷ 0 ∷ 0 ∷ 0 ∷ 2 ∷ 1 ∷ 1 ∷ 0 ∷ 2 ∷ 2 ∷ 2 ∷ 0 ∷ 0 ∷ 0 ∷ [])) (pos 2) (pos 2) 1802 10812 ≡ refused 10
+-- concatenateCall: refused 10
+e43 : askConcatenate (nums (0 ∷ 0 ∷ 0 ∷ 0 ∷ 2 ∷ 2 ∷ 1 ∷ 0 ∷ 0 ∷ 0 ∷ 0 ∷ [])) (pos 1) (pos 2) 1802 10812 ≡ refused 10
 unfolding askConcatenate
 e43 = refl
 
-e44 : askConcatenate (nums (0 ∷ 0 ∷ 4 ∷ 4 ∷ 1 ∷ 1 ∷ 1 ∷ 1 ∷ 0 ∷ 0 ∷ 2 ∷ 0 ∷ 0 ∷ 0 ∷ 0 ∷ 0 ∷ 0 ∷ 0 ∷ 0 ∷ 0 ∷ 1 ∷ [])) (pos 1) (pos 0) 1802 10812 ≡ refused 10
+e44 : askConcatenate (nums (1 ∷ 0 ∷ 1 ∷ 1 ∷ 1 ∷ 2 ∷ 1 ∷ 1 ∷ 0 ∷ 0 ∷ 0 ∷ [])) (pos 1) (pos 2) 1802 10812 ≡ refused 10
 unfolding askConcatenate
 e44 = refl
 
-e45 : askConcatenate (nums (0 ∷ 0 ∷ 0 ∷ 0 ∷ 2 ∷ 2 ∷ 1 ∷ 2 ∷ 0 ∷ 0 ∷ 0 ∷ 1 ∷ 0 ∷ 0 ∷ 0 ∷ 2 ∷ 2 ∷ 1 ∷ 3 ∷ 0 ∷ 0 ∷ 0 ∷ [])) (pos 2) (pos 2) 1802 10812 ≡ refused 10
+e45 : askConcatenate (nums (0 ∷ 0 ∷ 0 ∷ 0 ∷ 0 ∷ 0 ∷ 0 ∷ 0 ∷ 0 ∷ 0 ∷ 0 ∷ 0 ∷ 0 ∷ 0 ∷ 0 ∷ 0 ∷ [])) (pos 2) (pos 1) 1802 10812 ≡ refused 10
 unfolding askConcatenate
 e45 = refl
 
-e46 : askConcatenate (nums (0 ∷ 0 ∷ 0 ∷ 1 ∷ 1 ∷ 2 ∷ 2 ∷ 3 ∷ 0 ∷ 0 ∷ 0 ∷ 2 ∷ 0 ∷ 0 ∷ 1 ∷ 1 ∷ 2 ∷ 2 ∷ 3 ∷ 0 ∷ 0 ∷ 0 ∷ [])) (pos 2) (pos 2) 1802 10812 ≡ refused 10
+e46 : askConcatenate (nums (1 ∷ 0 ∷ 0 ∷ 0 ∷ 0 ∷ 0 ∷ 0 ∷ 0 ∷ 0 ∷ 0 ∷ 2 ∷ 1 ∷ 1 ∷ 0 ∷ 2 ∷ 2 ∷ 2 ∷ 0 ∷ 0 ∷ 0 ∷ [])) (pos 2) (pos 2) 1802 10812 ≡ refused 10
 unfolding askConcatenate
 e46 = refl
 
-e47 : askConcatenate (nums (0 ∷ 0 ∷ 1 ∷ 2 ∷ 1 ∷ 2 ∷ 2 ∷ 2 ∷ 0 ∷ 0 ∷ 0 ∷ 0 ∷ 0 ∷ 0 ∷ 2 ∷ 0 ∷ 2 ∷ 2 ∷ 2 ∷ 0 ∷ 0 ∷ 0 ∷ [])) (pos 2) (pos 2) 1802 10812 ≡ refused 10
+e47 : askConcatenate (nums (0 ∷ 0 ∷ 4 ∷ 4 ∷ 1 ∷ 1 ∷ 1 ∷ 1 ∷ 0 ∷ 0 ∷ 2 ∷ 0 ∷ 0 ∷ 0 ∷ 0 ∷ 0 ∷ 0 ∷ 0 ∷ 0 ∷ 0 ∷ 1 ∷ [])) (pos 1) (pos 0) 1802 10812 ≡ refused 10
 unfolding askConcatenate
 e47 = refl
 
-e48 : askConcatenate (nums (0 ∷ 0 ∷ 0 ∷ 2 ∷ 1 ∷ 2 ∷ 2 ∷ 1 ∷ 1 ∷ 0 ∷ 0 ∷ 0 ∷ 0 ∷ 0 ∷ 0 ∷ 1 ∷ 1 ∷ 2 ∷ 2 ∷ 1 ∷ 0 ∷ 0 ∷ 0 ∷ [])) (pos 2) (pos 2) 1802 10812 ≡ refused 10
+e48 : askConcatenate (nums (0 ∷ 0 ∷ 0 ∷ 0 ∷ 2 ∷ 2 ∷ 1 ∷ 2 ∷ 0 ∷ 0 ∷ 0 ∷ 1 ∷ 0 ∷ 0 ∷ 0 ∷ 2 ∷ 2 ∷ 1 ∷ 3 ∷ 0 ∷ 0 ∷ 0 ∷ [])) (pos 2) (pos 2) 1802 10812 ≡ refused 10
 unfolding askConcatenate
 e48 = refl
 
-e49 : askConcatenate (nums (0 ∷ 0 ∷ 0 ∷ 2 ∷ 1 ∷ 2 ∷ 1 ∷ 2 ∷ 1 ∷ 0 ∷ 0 ∷ 0 ∷ 1 ∷ 0 ∷ 0 ∷ 2 ∷ 1 ∷ 2 ∷ 1 ∷ 3 ∷ 1 ∷ 0 ∷ 0 ∷ 0 ∷ [])) (pos 2) (pos 2) 1802 10812 ≡ refused 10
+e49 : askConcatenate (nums (0 ∷ 0 ∷ 0 ∷ 1 ∷ 1 ∷ 2 ∷ 2 ∷ 3 ∷ 0 ∷ 0 ∷ 0 ∷ 2 ∷ 0 ∷ 0 ∷ 1 ∷ 1 ∷ 2 ∷ 2 ∷ 3 ∷ 0 ∷ 0 ∷ 0 ∷ [])) (pos 2) (pos 2) 1802 10812 ≡ refused 10
 unfolding askConcatenate
 e49 = refl
 
-e50 : askConcatenate (nums (2 ∷ 3 ∷ 0 ∷ 1 ∷ 2 ∷ 3 ∷ 3 ∷ 4 ∷ 1 ∷ 0 ∷ 0 ∷ 3 ∷ 0 ∷ 4 ∷ 0 ∷ 2 ∷ 2 ∷ 3 ∷ 0 ∷ 2 ∷ 4 ∷ 4 ∷ 0 ∷ 3 ∷ [])) (pos 1) (pos 2) 1802 10813 ≡ refused 10
+e50 : askConcatenate (nums (0 ∷ 0 ∷ 1 ∷ 2 ∷ 1 ∷ 2 ∷ 2 ∷ 2 ∷ 0 ∷ 0 ∷ 0 ∷ 0 ∷ 0 ∷ 0 ∷ 2 ∷ 0 ∷ 2 ∷ 2 ∷ 2 ∷ 0 ∷ 0 ∷ 0 ∷ [])) (pos 2) (pos 2) 1802 10812 ≡ refused 10
 unfolding askConcatenate
 e50 = refl
 
--- concatenateCall: refused 12
-e51 : askConcatenate (nums (0 ∷ 2 ∷ 0 ∷ 0 ∷ 1 ∷ 0 ∷ 0 ∷ [])) (pos 1) (pos 0) 1802 10812 ≡ refused 12
+e51 : askConcatenate (nums (0 ∷ 0 ∷ 0 ∷ 2 ∷ 1 ∷ 2 ∷ 2 ∷ 1 ∷ 1 ∷ 0 ∷ 0 ∷ 0 ∷ 0 ∷ 0 ∷ 0 ∷ 1 ∷ 1 ∷ 2 ∷ 2 ∷ 1 ∷ 0 ∷ 0 ∷ 0 ∷ [])) (pos 2) (pos 2) 1802 10812 ≡ refused 10
 unfolding askConcatenate
 e51 = refl
 
-e52 : askConcatenate (nums (0 ∷ 0 ∷ 2 ∷ 1 ∷ 1 ∷ 1 ∷ 1 ∷ 0 ∷ 0 ∷ [])) (pos 1) (pos 1) 1802 10812 ≡ refused 12
+e52 : askConcatenate (nums (0 ∷ 0 ∷ 0 ∷ 2 ∷ 1 ∷ 2 ∷ 1 ∷ 2 ∷ 1 ∷ 0 ∷ 0 ∷ 0 ∷ 1 ∷ 0 ∷ 0 ∷ 2 ∷ 1 ∷ 2 ∷ 1 ∷ 3 ∷ 1 ∷ 0 ∷ 0 ∷ 0 ∷ [])) (pos 2) (pos 2) 1802 10812 ≡ refused 10
 unfolding askConcatenate
 e52 = refl
 
--- concatenateCall: refused 13
-e53 : askConcatenate (nums (1 ∷ 0 ∷ 1 ∷ 0 ∷ 1 ∷ 129 ∷ 0 ∷ 0 ∷ 0 ∷ [])) (pos 1) (pos 1) 1802 10812 ≡ refused 13
+e53 : askConcatenate (nums (2 ∷ 3 ∷ 0 ∷ 1 ∷ 2 ∷ 3 ∷ 3 ∷ 4 ∷ 1 ∷ 0 ∷ 0 ∷ 3 ∷ 0 ∷ 4 ∷ 0 ∷ 2 ∷ 2 ∷ 3 ∷ 0 ∷ 2 ∷ 4 ∷ 4 ∷ 0 ∷ 3 ∷ [])) (pos 1) (pos 2) 1802 10813 ≡ refused 10
 unfolding askConcatenate
 e53 = refl
 
-e54 : askConcatenate (nums (65536 ∷ 0 ∷ 2 ∷ 0 ∷ 1 ∷ 1 ∷ 0 ∷ 0 ∷ 0 ∷ [])) (pos 1) (pos 1) 1802 10812 ≡ refused 13
+-- concatenateCall: refused 12
+e54 : askConcatenate (nums (0 ∷ 2 ∷ 0 ∷ 0 ∷ 1 ∷ 0 ∷ 0 ∷ [])) (pos 1) (pos 0) 1802 10812 ≡ refused 12
 unfolding askConcatenate
 e54 = refl
 
-e55 : askConcatenate (nums (65536 ∷ 0 ∷ 2 ∷ 0 ∷ 1 ∷ 1 ∷ 1 ∷ 0 ∷ 0 ∷ 0 ∷ [])) (pos 1) (pos 1) 1802 10812 ≡ refused 13
+e55 : askConcatenate (nums (0 ∷ 0 ∷ 2 ∷ 1 ∷ 1 ∷ 1 ∷ 1 ∷ 0 ∷ 0 ∷ [])) (pos 1) (pos 1) 1802 10812 ≡ refused 12
 unfolding askConcatenate
 e55 = refl
 
--- concatenateCall: refused 2
-e56 : askConcatenate [] (pos 0) (pos 2) 1802 0 ≡ refused 2
+-- concatenateCall: refused 13
+e56 : askConcatenate (nums (1 ∷ 0 ∷ 1 ∷ 0 ∷ 1 ∷ 129 ∷ 0 ∷ 0 ∷ 0 ∷ [])) (pos 1) (pos 1) 1802 10812 ≡ refused 13
 unfolding askConcatenate
 e56 = refl
 
-e57 : askConcatenate [] (pos 0) (pos 0) 0 10812 ≡ refused 2
+e57 : askConcatenate (nums (65536 ∷ 0 ∷ 2 ∷ 0 ∷ 1 ∷ 1 ∷ 0 ∷ 0 ∷ 0 ∷ [])) (pos 1) (pos 1) 1802 10812 ≡ refused 13
 unfolding askConcatenate
 e57 = refl
 
-e58 : askConcatenate (nums (0 ∷ 2 ∷ [])) (pos 1) (pos 1) 0 0 ≡ refused 2
+e58 : askConcatenate (nums (65536 ∷ 0 ∷ 2 ∷ 0 ∷ 1 ∷ 1 ∷ 1 ∷ 0 ∷ 0 ∷ 0 ∷ [])) (pos 1) (pos 1) 1802 10812 ≡ refused 13
 unfolding askConcatenate
 e58 = refl
 
-e59 : askConcatenate [] (pos 0) (pos 4) 1801 10812 ≡ refused 2
+e59 : askConcatenate (nums (1 ∷ 0 ∷ 0 ∷ 1 ∷ 1 ∷ 1 ∷ 0 ∷ 1 ∷ 65535 ∷ 2 ∷ 0 ∷ [])) (pos 1) (pos 1) 1802 10812 ≡ refused 13
 unfolding askConcatenate
 e59 = refl
 
-e60 : askConcatenate (nums (0 ∷ 0 ∷ 0 ∷ [])) (pos 1) (pos 2) 2000 0 ≡ refused 2
+e60 : askConcatenate (nums (0 ∷ 0 ∷ 0 ∷ 1 ∷ 1 ∷ 32768 ∷ 0 ∷ 0 ∷ 0 ∷ 32768 ∷ 0 ∷ 0 ∷ 1 ∷ 1 ∷ 32769 ∷ 0 ∷ 0 ∷ 0 ∷ [])) (pos 2) (pos 1) 1802 10812 ≡ refused 13
 unfolding askConcatenate
 e60 = refl
 
-e61 : askConcatenate (nums (2 ∷ 0 ∷ 1 ∷ 1 ∷ 1 ∷ 0 ∷ 0 ∷ 0 ∷ [])) (pos 1) (pos 0) 0 0 ≡ refused 2
+-- concatenateCall: refused 2
+e61 : askConcatenate [] (pos 0) (pos 2) 1802 0 ≡ refused 2
 unfolding askConcatenate
 e61 = refl
 
-e62 : askConcatenate (nums (0 ∷ 0 ∷ 0 ∷ 0 ∷ 0 ∷ 0 ∷ 4 ∷ 4 ∷ 1 ∷ 1 ∷ 1 ∷ 1 ∷ 0 ∷ 0 ∷ 0 ∷ [])) (pos 1) (pos 4) 1802 0 ≡ refused 2
+e62 : askConcatenate [] (pos 0) (pos 0) 0 10812 ≡ refused 2
 unfolding askConcatenate
 e62 = refl
 
--- concatenateCall: refused 3
-e63 : askConcatenate [] (pos 1) (pos 1) 1802 10812 ≡ refused 3
+e63 : askConcatenate (nums (0 ∷ 2 ∷ [])) (pos 1) (pos 1) 0 0 ≡ refused 2
 unfolding askConcatenate
 e63 = refl
 
-e64 : askConcatenate (nums (0 ∷ 2 ∷ [])) (pos 1) (pos 1) 1802 10812 ≡ refused 3
+e64 : askConcatenate [] (pos 0) (pos 4) 1801 10812 ≡ refused 2
 unfolding askConcatenate
 e64 = refl
 
-e65 : askConcatenate (nums (1 ∷ 0 ∷ [])) (pos 16) (pos 1) 1802 10812 ≡ refused 3
+e65 : askConcatenate (nums (0 ∷ 0 ∷ 0 ∷ [])) (pos 1) (pos 2) 2000 0 ≡ refused 2
 unfolding askConcatenate
 e65 = refl
 
-e66 : askConcatenate (nums (1 ∷ 2 ∷ 0 ∷ 2 ∷ 0 ∷ [])) (pos 16) (pos 2) 1802 20000 ≡ refused 3
+e66 : askConcatenate (nums (2 ∷ 0 ∷ 1 ∷ 1 ∷ 1 ∷ 0 ∷ 0 ∷ 0 ∷ [])) (pos 1) (pos 0) 0 0 ≡ refused 2
 unfolding askConcatenate
 e66 = refl
 
-e67 : askConcatenate (nums (0 ∷ 0 ∷ 0 ∷ 0 ∷ 1 ∷ 2 ∷ [])) (pos 1) (pos 4) 1802 10812 ≡ refused 3
+e67 : askConcatenate (nums (0 ∷ 0 ∷ 0 ∷ 0 ∷ 0 ∷ 0 ∷ 4 ∷ 4 ∷ 1 ∷ 1 ∷ 1 ∷ 1 ∷ 0 ∷ 0 ∷ 0 ∷ [])) (pos 1) (pos 4) 1802 0 ≡ refused 2
 unfolding askConcatenate
 e67 = refl
 
-e68 : askConcatenate (nums (0 ∷ 0 ∷ 0 ∷ 0 ∷ 1 ∷ 1 ∷ 1 ∷ 0 ∷ 0 ∷ 0 ∷ 1 ∷ 0 ∷ 1 ∷ 0 ∷ 0 ∷ 0 ∷ 2 ∷ 2 ∷ 2 ∷ 3 ∷ 0 ∷ 1 ∷ 0 ∷ 0 ∷ 1 ∷ 2 ∷ 1 ∷ 2 ∷ 2 ∷ 4 ∷ 5 ∷ 3 ∷ [])) (pos 2) (pos 2) 1802 10813 ≡ refused 3
+-- concatenateCall: refused 3
+e68 : askConcatenate [] (pos 1) (pos 1) 1802 10812 ≡ refused 3
 unfolding askConcatenate
 e68 = refl
 
--- concatenateCall: refused 5
-e69 : askConcatenate [] (pos 0) (negsuc 0) 1802 10812 ≡ refused 5
+e69 : askConcatenate (nums (0 ∷ 2 ∷ [])) (pos 1) (pos 1) 1802 10812 ≡ refused 3
 unfolding askConcatenate
 e69 = refl
 
-e70 : askConcatenate (nums (0 ∷ 7 ∷ 0 ∷ 0 ∷ 0 ∷ 0 ∷ 0 ∷ 0 ∷ [])) (pos 1) (pos 1) 1802 10812 ≡ refused 5
+e70 : askConcatenate (nums (1 ∷ 0 ∷ [])) (pos 16) (pos 1) 1802 10812 ≡ refused 3
 unfolding askConcatenate
 e70 = refl
 
-e71 : askConcatenate (nums (2 ∷ 0 ∷ 1 ∷ 1 ∷ 1 ∷ 0 ∷ 0 ∷ 0 ∷ [])) (pos 1) (pos 0) 1802 10812 ≡ refused 5
+e71 : askConcatenate (nums (1 ∷ 2 ∷ 0 ∷ 2 ∷ 0 ∷ [])) (pos 16) (pos 2) 1802 20000 ≡ refused 3
 unfolding askConcatenate
 e71 = refl
 
-e72 : askConcatenate (pos 0 ∷ negsuc 69999 ∷ pos 1 ∷ pos 2 ∷ pos 2 ∷ pos 2 ∷ pos 1 ∷ pos 1 ∷ pos 1 ∷ pos 0 ∷ pos 0 ∷ negsuc 0 ∷ pos 8 ∷ pos 3 ∷ pos 7 ∷ []) (pos 1) (pos 2) 1802 10812 ≡ refused 5
+e72 : askConcatenate (nums (0 ∷ 0 ∷ 0 ∷ 0 ∷ 1 ∷ 2 ∷ [])) (pos 1) (pos 4) 1802 10812 ≡ refused 3
 unfolding askConcatenate
 e72 = refl
+
+e73 : askConcatenate (nums (0 ∷ 0 ∷ 0 ∷ 0 ∷ 1 ∷ 1 ∷ 1 ∷ 0 ∷ 0 ∷ 0 ∷ 1 ∷ 0 ∷ 1 ∷ 0 ∷ 0 ∷ 0 ∷ 2 ∷ 2 ∷ 2 ∷ 3 ∷ 0 ∷ 1 ∷ 0 ∷ 0 ∷ 1 ∷ 2 ∷ 1 ∷ 2 ∷ 2 ∷ 4 ∷ 5 ∷ 3 ∷ [])) (pos 2) (pos 2) 1802 10813 ≡ refused 3
+unfolding askConcatenate
+e73 = refl
+
+-- concatenateCall: refused 5
+e74 : askConcatenate [] (pos 0) (negsuc 0) 1802 10812 ≡ refused 5
+unfolding askConcatenate
+e74 = refl
+
+e75 : askConcatenate (nums (0 ∷ 7 ∷ 0 ∷ 0 ∷ 0 ∷ 0 ∷ 0 ∷ 0 ∷ [])) (pos 1) (pos 1) 1802 10812 ≡ refused 5
+unfolding askConcatenate
+e75 = refl
+
+e76 : askConcatenate (nums (2 ∷ 0 ∷ 1 ∷ 1 ∷ 1 ∷ 0 ∷ 0 ∷ 0 ∷ [])) (pos 1) (pos 0) 1802 10812 ≡ refused 5
+unfolding askConcatenate
+e76 = refl
+
+e77 : askConcatenate (nums (65537 ∷ 1 ∷ 2 ∷ 0 ∷ 1 ∷ 0 ∷ 0 ∷ 0 ∷ 0 ∷ [])) (pos 1) (pos 1) 1802 10812 ≡ refused 5
+unfolding askConcatenate
+e77 = refl
+
+e78 : askConcatenate (pos 0 ∷ negsuc 69999 ∷ pos 1 ∷ pos 2 ∷ pos 2 ∷ pos 2 ∷ pos 1 ∷ pos 1 ∷ pos 1 ∷ pos 0 ∷ pos 0 ∷ negsuc 0 ∷ pos 8 ∷ pos 3 ∷ pos 7 ∷ []) (pos 1) (pos 2) 1802 10812 ≡ refused 5
+unfolding askConcatenate
+e78 = refl

@@ -140,118 +140,134 @@ e32 : askIntersect (nums (2 ∷ 2 ∷ 2 ∷ 1 ∷ 0 ∷ 0 ∷ 1 ∷ 0 ∷ 0 ∷ 
 unfolding askIntersect
 e32 = refl
 
-e33 : askIntersect (nums (2 ∷ 1 ∷ 2 ∷ 2 ∷ 2 ∷ 1 ∷ 1 ∷ 1 ∷ 1 ∷ 0 ∷ 7 ∷ 0 ∷ [])) (nums (2 ∷ 0 ∷ 2 ∷ 2 ∷ 2 ∷ 2 ∷ 1 ∷ 0 ∷ 1 ∷ 1 ∷ 0 ∷ 0 ∷ [])) 1802 10812 ≡ given (nums (2 ∷ 0 ∷ 2 ∷ 2 ∷ 2 ∷ 2 ∷ 1 ∷ 0 ∷ 1 ∷ 1 ∷ 2 ∷ 1 ∷ 0 ∷ 7 ∷ 1 ∷ 1 ∷ 7 ∷ 0 ∷ []))
+e33 : askIntersect (nums (2 ∷ 1 ∷ 2 ∷ 1 ∷ 128 ∷ 1 ∷ 0 ∷ 0 ∷ 0 ∷ [])) (nums (2 ∷ 0 ∷ 2 ∷ 1 ∷ 128 ∷ 1 ∷ 0 ∷ 1 ∷ 0 ∷ 0 ∷ [])) 1802 10812 ≡ given (nums (2 ∷ 0 ∷ 2 ∷ 1 ∷ 128 ∷ 1 ∷ 0 ∷ 1 ∷ 0 ∷ 0 ∷ []))
 unfolding askIntersect
 e33 = refl
 
--- intersectCall: refused 1
-e34 : askIntersect (nums (0 ∷ 0 ∷ 5 ∷ [])) [] 0 0 ≡ refused 1
+e34 : askIntersect (nums (1 ∷ 0 ∷ 2 ∷ 128 ∷ 128 ∷ 0 ∷ 0 ∷ 0 ∷ [])) (nums (2 ∷ 0 ∷ 2 ∷ 128 ∷ 128 ∷ 1 ∷ 1 ∷ 1 ∷ 0 ∷ 0 ∷ [])) 1802 10812 ≡ given (nums (2 ∷ 0 ∷ 2 ∷ 128 ∷ 128 ∷ 1 ∷ 1 ∷ 1 ∷ 0 ∷ 0 ∷ []))
 unfolding askIntersect
 e34 = refl
 
-e35 : askIntersect (nums (0 ∷ 0 ∷ 5 ∷ [])) [] 1802 10812 ≡ refused 1
+e35 : askIntersect (nums (2 ∷ 1 ∷ 2 ∷ 2 ∷ 2 ∷ 1 ∷ 1 ∷ 1 ∷ 1 ∷ 0 ∷ 7 ∷ 0 ∷ [])) (nums (2 ∷ 0 ∷ 2 ∷ 2 ∷ 2 ∷ 2 ∷ 1 ∷ 0 ∷ 1 ∷ 1 ∷ 0 ∷ 0 ∷ [])) 1802 10812 ≡ given (nums (2 ∷ 0 ∷ 2 ∷ 2 ∷ 2 ∷ 2 ∷ 1 ∷ 0 ∷ 1 ∷ 1 ∷ 2 ∷ 1 ∷ 0 ∷ 7 ∷ 1 ∷ 1 ∷ 7 ∷ 0 ∷ []))
 unfolding askIntersect
 e35 = refl
 
-e36 : askIntersect (nums (0 ∷ 5 ∷ 5 ∷ 1 ∷ 1 ∷ 1 ∷ 1 ∷ 1 ∷ 0 ∷ 0 ∷ 0 ∷ [])) (nums (0 ∷ 2 ∷ 2 ∷ 4 ∷ 2 ∷ 0 ∷ 0 ∷ 0 ∷ [])) 2000 10812 ≡ refused 1
+-- intersectCall: refused 1
+e36 : askIntersect (nums (0 ∷ 0 ∷ 5 ∷ [])) [] 0 0 ≡ refused 1
 unfolding askIntersect
 e36 = refl
 
-e37 : askIntersect (nums (1 ∷ 5 ∷ 5 ∷ 1 ∷ 1 ∷ 1 ∷ 1 ∷ 1 ∷ 0 ∷ 0 ∷ 0 ∷ [])) (nums (0 ∷ 2 ∷ 2 ∷ 2 ∷ 2 ∷ 0 ∷ 0 ∷ 1 ∷ 1 ∷ 0 ∷ 2 ∷ [])) 1802 0 ≡ refused 1
+e37 : askIntersect (nums (0 ∷ 0 ∷ 5 ∷ [])) [] 1802 10812 ≡ refused 1
 unfolding askIntersect
 e37 = refl
 
--- intersectCall: refused 11
-e38 : askIntersect (nums (2 ∷ 2 ∷ 2 ∷ 4 ∷ 3 ∷ 1 ∷ 0 ∷ 0 ∷ [])) (nums (1 ∷ 1 ∷ 2 ∷ 4 ∷ 3 ∷ 0 ∷ 0 ∷ 0 ∷ [])) 1802 10812 ≡ refused 11
+e38 : askIntersect (nums (0 ∷ 5 ∷ 5 ∷ 1 ∷ 1 ∷ 1 ∷ 1 ∷ 1 ∷ 0 ∷ 0 ∷ 0 ∷ [])) (nums (0 ∷ 2 ∷ 2 ∷ 4 ∷ 2 ∷ 0 ∷ 0 ∷ 0 ∷ [])) 2000 10812 ≡ refused 1
 unfolding askIntersect
 e38 = refl
 
-e39 : askIntersect (nums (0 ∷ 1 ∷ 1 ∷ 1 ∷ 0 ∷ 1 ∷ 0 ∷ 0 ∷ 0 ∷ [])) (nums (2 ∷ 1 ∷ 1 ∷ 1 ∷ 0 ∷ 0 ∷ 0 ∷ [])) 1802 10812 ≡ refused 11
+e39 : askIntersect (nums (1 ∷ 5 ∷ 5 ∷ 1 ∷ 1 ∷ 1 ∷ 1 ∷ 1 ∷ 0 ∷ 0 ∷ 0 ∷ [])) (nums (0 ∷ 2 ∷ 2 ∷ 2 ∷ 2 ∷ 0 ∷ 0 ∷ 1 ∷ 1 ∷ 0 ∷ 2 ∷ [])) 1802 0 ≡ refused 1
 unfolding askIntersect
 e39 = refl
 
-e40 : askIntersect (nums (2 ∷ 2 ∷ 3 ∷ 1 ∷ 1 ∷ 1 ∷ 1 ∷ 0 ∷ 1 ∷ 0 ∷ 0 ∷ 0 ∷ 0 ∷ 0 ∷ [])) (nums (2 ∷ 1 ∷ 3 ∷ 1 ∷ 1 ∷ 1 ∷ 0 ∷ 0 ∷ 0 ∷ [])) 1802 10812 ≡ refused 11
+-- intersectCall: refused 11
+e40 : askIntersect (nums (2 ∷ 2 ∷ 2 ∷ 4 ∷ 3 ∷ 1 ∷ 0 ∷ 0 ∷ [])) (nums (1 ∷ 1 ∷ 2 ∷ 4 ∷ 3 ∷ 0 ∷ 0 ∷ 0 ∷ [])) 1802 10812 ≡ refused 11
 unfolding askIntersect
 e40 = refl
 
-e41 : askIntersect (nums (1 ∷ 2 ∷ 3 ∷ 3 ∷ 3 ∷ 3 ∷ 0 ∷ 1 ∷ 1 ∷ 0 ∷ 0 ∷ 2 ∷ 0 ∷ [])) (nums (1 ∷ 0 ∷ 3 ∷ 3 ∷ 3 ∷ 3 ∷ 0 ∷ 1 ∷ 2 ∷ 0 ∷ 0 ∷ 1 ∷ 0 ∷ [])) 1802 20000 ≡ refused 11
+e41 : askIntersect (nums (0 ∷ 1 ∷ 1 ∷ 1 ∷ 0 ∷ 1 ∷ 0 ∷ 0 ∷ 0 ∷ [])) (nums (2 ∷ 1 ∷ 1 ∷ 1 ∷ 0 ∷ 0 ∷ 0 ∷ [])) 1802 10812 ≡ refused 11
 unfolding askIntersect
 e41 = refl
 
--- intersectCall: refused 12
-e42 : askIntersect (nums (2 ∷ 3 ∷ 3 ∷ 2 ∷ 2 ∷ 200 ∷ 1 ∷ 0 ∷ 0 ∷ [])) (nums (2 ∷ 1 ∷ 3 ∷ 2 ∷ 2 ∷ 200 ∷ 0 ∷ 0 ∷ 0 ∷ [])) 1802 10812 ≡ refused 12
+e42 : askIntersect (nums (2 ∷ 2 ∷ 3 ∷ 1 ∷ 1 ∷ 1 ∷ 1 ∷ 0 ∷ 1 ∷ 0 ∷ 0 ∷ 0 ∷ 0 ∷ 0 ∷ [])) (nums (2 ∷ 1 ∷ 3 ∷ 1 ∷ 1 ∷ 1 ∷ 0 ∷ 0 ∷ 0 ∷ [])) 1802 10812 ≡ refused 11
 unfolding askIntersect
 e42 = refl
 
--- intersectCall: refused 13
-e43 : askIntersect (nums (1 ∷ 0 ∷ 1 ∷ 129 ∷ 0 ∷ 0 ∷ 0 ∷ [])) (nums (2 ∷ 0 ∷ 1 ∷ 129 ∷ 0 ∷ 0 ∷ 0 ∷ [])) 1802 10812 ≡ refused 13
+e43 : askIntersect (nums (1 ∷ 2 ∷ 3 ∷ 3 ∷ 3 ∷ 3 ∷ 0 ∷ 1 ∷ 1 ∷ 0 ∷ 0 ∷ 2 ∷ 0 ∷ [])) (nums (1 ∷ 0 ∷ 3 ∷ 3 ∷ 3 ∷ 3 ∷ 0 ∷ 1 ∷ 2 ∷ 0 ∷ 0 ∷ 1 ∷ 0 ∷ [])) 1802 20000 ≡ refused 11
 unfolding askIntersect
 e43 = refl
 
-e44 : askIntersect (nums (2 ∷ 0 ∷ 2 ∷ 2 ∷ 129 ∷ 0 ∷ 0 ∷ 0 ∷ [])) (nums (2 ∷ 1 ∷ 2 ∷ 2 ∷ 129 ∷ 1 ∷ 0 ∷ 0 ∷ 0 ∷ [])) 1802 10812 ≡ refused 13
+-- intersectCall: refused 12
+e44 : askIntersect (nums (2 ∷ 3 ∷ 3 ∷ 2 ∷ 2 ∷ 200 ∷ 1 ∷ 0 ∷ 0 ∷ [])) (nums (2 ∷ 1 ∷ 3 ∷ 2 ∷ 2 ∷ 200 ∷ 0 ∷ 0 ∷ 0 ∷ [])) 1802 10812 ≡ refused 12
 unfolding askIntersect
 e44 = refl
 
--- intersectCall: refused 2
-e45 : askIntersect [] (nums (0 ∷ 0 ∷ 0 ∷ 0 ∷ 0 ∷ 0 ∷ [])) 0 0 ≡ refused 2
+-- intersectCall: refused 13
+e45 : askIntersect (nums (1 ∷ 0 ∷ 1 ∷ 129 ∷ 0 ∷ 0 ∷ 0 ∷ [])) (nums (2 ∷ 0 ∷ 1 ∷ 129 ∷ 0 ∷ 0 ∷ 0 ∷ [])) 1802 10812 ≡ refused 13
 unfolding askIntersect
 e45 = refl
 
-e46 : askIntersect (nums (0 ∷ 0 ∷ 0 ∷ 0 ∷ 0 ∷ 0 ∷ [])) [] 0 0 ≡ refused 2
+e46 : askIntersect (nums (2 ∷ 0 ∷ 2 ∷ 2 ∷ 129 ∷ 0 ∷ 0 ∷ 0 ∷ [])) (nums (2 ∷ 1 ∷ 2 ∷ 2 ∷ 129 ∷ 1 ∷ 0 ∷ 0 ∷ 0 ∷ [])) 1802 10812 ≡ refused 13
 unfolding askIntersect
 e46 = refl
 
-e47 : askIntersect [] (nums (2 ∷ 0 ∷ 0 ∷ 1 ∷ 0 ∷ 0 ∷ [])) 1802 10811 ≡ refused 2
+e47 : askIntersect (nums (2 ∷ 1 ∷ 2 ∷ 1 ∷ 129 ∷ 1 ∷ 0 ∷ 0 ∷ 0 ∷ [])) (nums (2 ∷ 0 ∷ 2 ∷ 1 ∷ 129 ∷ 1 ∷ 0 ∷ 1 ∷ 0 ∷ 0 ∷ [])) 1802 10812 ≡ refused 13
 unfolding askIntersect
 e47 = refl
 
-e48 : askIntersect (nums (2 ∷ 0 ∷ 1 ∷ 2 ∷ 2 ∷ 1 ∷ 0 ∷ 0 ∷ 0 ∷ [])) (nums (0 ∷ 0 ∷ 0 ∷ 0 ∷ 0 ∷ 0 ∷ [])) 0 0 ≡ refused 2
+e48 : askIntersect (nums (1 ∷ 0 ∷ 2 ∷ 129 ∷ 129 ∷ 0 ∷ 0 ∷ 0 ∷ [])) (nums (2 ∷ 0 ∷ 2 ∷ 129 ∷ 129 ∷ 1 ∷ 1 ∷ 1 ∷ 0 ∷ 0 ∷ [])) 1802 10812 ≡ refused 13
 unfolding askIntersect
 e48 = refl
 
-e49 : askIntersect (nums (0 ∷ 0 ∷ 0 ∷ 0 ∷ 0 ∷ 0 ∷ [])) (nums (0 ∷ 0 ∷ 0 ∷ 0 ∷ 1 ∷ 2 ∷ 2 ∷ 0 ∷ 1 ∷ [])) 0 10812 ≡ refused 2
+-- intersectCall: refused 2
+e49 : askIntersect [] (nums (0 ∷ 0 ∷ 0 ∷ 0 ∷ 0 ∷ 0 ∷ [])) 0 0 ≡ refused 2
 unfolding askIntersect
 e49 = refl
 
--- intersectCall: refused 3
-e50 : askIntersect [] (nums (0 ∷ 0 ∷ 0 ∷ 0 ∷ 0 ∷ 0 ∷ [])) 1802 10812 ≡ refused 3
+e50 : askIntersect (nums (0 ∷ 0 ∷ 0 ∷ 0 ∷ 0 ∷ 0 ∷ [])) [] 0 0 ≡ refused 2
 unfolding askIntersect
 e50 = refl
 
-e51 : askIntersect (nums (0 ∷ 0 ∷ 0 ∷ 0 ∷ 0 ∷ 0 ∷ [])) [] 1802 10812 ≡ refused 3
+e51 : askIntersect [] (nums (2 ∷ 0 ∷ 0 ∷ 1 ∷ 0 ∷ 0 ∷ [])) 1802 10811 ≡ refused 2
 unfolding askIntersect
 e51 = refl
 
-e52 : askIntersect (nums (0 ∷ 1 ∷ 1 ∷ 1 ∷ 0 ∷ 0 ∷ 0 ∷ [])) [] 1802 10812 ≡ refused 3
+e52 : askIntersect (nums (2 ∷ 0 ∷ 1 ∷ 2 ∷ 2 ∷ 1 ∷ 0 ∷ 0 ∷ 0 ∷ [])) (nums (0 ∷ 0 ∷ 0 ∷ 0 ∷ 0 ∷ 0 ∷ [])) 0 0 ≡ refused 2
 unfolding askIntersect
 e52 = refl
 
-e53 : askIntersect (nums (1 ∷ 3 ∷ 4 ∷ 1 ∷ 2 ∷ 4 ∷ 1 ∷ 0 ∷ 0 ∷ 0 ∷ [])) [] 10812 10812 ≡ refused 3
+e53 : askIntersect (nums (0 ∷ 0 ∷ 0 ∷ 0 ∷ 0 ∷ 0 ∷ [])) (nums (0 ∷ 0 ∷ 0 ∷ 0 ∷ 1 ∷ 2 ∷ 2 ∷ 0 ∷ 1 ∷ [])) 0 10812 ≡ refused 2
 unfolding askIntersect
 e53 = refl
 
-e54 : askIntersect [] (nums (2 ∷ 0 ∷ 1 ∷ 4 ∷ 1 ∷ 1 ∷ 0 ∷ 3 ∷ 1 ∷ 4 ∷ 2 ∷ 3 ∷ 2 ∷ 2147483647 ∷ [])) 1802 10812 ≡ refused 3
+-- intersectCall: refused 3
+e54 : askIntersect [] (nums (0 ∷ 0 ∷ 0 ∷ 0 ∷ 0 ∷ 0 ∷ [])) 1802 10812 ≡ refused 3
 unfolding askIntersect
 e54 = refl
 
-e55 : askIntersect (pos 2 ∷ pos 2 ∷ negsuc 2147483647 ∷ pos 4 ∷ pos 3 ∷ pos 1 ∷ pos 0 ∷ pos 0 ∷ []) (nums (2 ∷ 2 ∷ 2 ∷ 4 ∷ 3 ∷ 1 ∷ 0 ∷ 0 ∷ [])) 1802 10812 ≡ refused 3
+e55 : askIntersect (nums (0 ∷ 0 ∷ 0 ∷ 0 ∷ 0 ∷ 0 ∷ [])) [] 1802 10812 ≡ refused 3
 unfolding askIntersect
 e55 = refl
 
-e56 : askIntersect (nums (0 ∷ 1 ∷ 1 ∷ 3 ∷ 0 ∷ 0 ∷ 3 ∷ 1 ∷ 0 ∷ 2 ∷ 0 ∷ 2 ∷ [])) (nums (1 ∷ 0 ∷ 1 ∷ 3 ∷ 0 ∷ 0 ∷ 2 ∷ 0 ∷ 1 ∷ 1 ∷ 3 ∷ [])) 2000 10812 ≡ refused 3
+e56 : askIntersect (nums (0 ∷ 1 ∷ 1 ∷ 1 ∷ 0 ∷ 0 ∷ 0 ∷ [])) [] 1802 10812 ≡ refused 3
 unfolding askIntersect
 e56 = refl
 
--- intersectCall: refused 4
-e57 : askIntersect (nums (2 ∷ 0 ∷ 1 ∷ 2 ∷ 2 ∷ 1 ∷ 0 ∷ 0 ∷ 0 ∷ [])) (nums (0 ∷ 0 ∷ 0 ∷ 0 ∷ 0 ∷ 0 ∷ [])) 1802 10812 ≡ refused 4
+e57 : askIntersect (nums (1 ∷ 3 ∷ 4 ∷ 1 ∷ 2 ∷ 4 ∷ 1 ∷ 0 ∷ 0 ∷ 0 ∷ [])) [] 10812 10812 ≡ refused 3
 unfolding askIntersect
 e57 = refl
 
-e58 : askIntersect (nums (0 ∷ 1 ∷ 1 ∷ 2 ∷ 0 ∷ 0 ∷ 0 ∷ [])) (nums (2 ∷ 0 ∷ 1 ∷ 2 ∷ 2 ∷ 1 ∷ 0 ∷ 0 ∷ 0 ∷ [])) 1802 10812 ≡ refused 4
+e58 : askIntersect [] (nums (2 ∷ 0 ∷ 1 ∷ 4 ∷ 1 ∷ 1 ∷ 0 ∷ 3 ∷ 1 ∷ 4 ∷ 2 ∷ 3 ∷ 2 ∷ 2147483647 ∷ [])) 1802 10812 ≡ refused 3
 unfolding askIntersect
 e58 = refl
 
--- intersectCall: refused 6
-e59 : askIntersect (nums (1 ∷ 0 ∷ 2 ∷ 3 ∷ 3 ∷ 0 ∷ 0 ∷ 2 ∷ 2 ∷ 2 ∷ 1 ∷ 4 ∷ 1 ∷ 3 ∷ [])) (nums (1 ∷ 0 ∷ 1 ∷ 2 ∷ 0 ∷ 0 ∷ 0 ∷ [])) 1802 20000 ≡ refused 6
+e59 : askIntersect (pos 2 ∷ pos 2 ∷ negsuc 2147483647 ∷ pos 4 ∷ pos 3 ∷ pos 1 ∷ pos 0 ∷ pos 0 ∷ []) (nums (2 ∷ 2 ∷ 2 ∷ 4 ∷ 3 ∷ 1 ∷ 0 ∷ 0 ∷ [])) 1802 10812 ≡ refused 3
 unfolding askIntersect
 e59 = refl
+
+e60 : askIntersect (nums (0 ∷ 1 ∷ 1 ∷ 3 ∷ 0 ∷ 0 ∷ 3 ∷ 1 ∷ 0 ∷ 2 ∷ 0 ∷ 2 ∷ [])) (nums (1 ∷ 0 ∷ 1 ∷ 3 ∷ 0 ∷ 0 ∷ 2 ∷ 0 ∷ 1 ∷ 1 ∷ 3 ∷ [])) 2000 10812 ≡ refused 3
+unfolding askIntersect
+e60 = refl
+
+-- intersectCall: refused 4
+e61 : askIntersect (nums (2 ∷ 0 ∷ 1 ∷ 2 ∷ 2 ∷ 1 ∷ 0 ∷ 0 ∷ 0 ∷ [])) (nums (0 ∷ 0 ∷ 0 ∷ 0 ∷ 0 ∷ 0 ∷ [])) 1802 10812 ≡ refused 4
+unfolding askIntersect
+e61 = refl
+
+e62 : askIntersect (nums (0 ∷ 1 ∷ 1 ∷ 2 ∷ 0 ∷ 0 ∷ 0 ∷ [])) (nums (2 ∷ 0 ∷ 1 ∷ 2 ∷ 2 ∷ 1 ∷ 0 ∷ 0 ∷ 0 ∷ [])) 1802 10812 ≡ refused 4
+unfolding askIntersect
+e62 = refl
+
+-- intersectCall: refused 6
+e63 : askIntersect (nums (1 ∷ 0 ∷ 2 ∷ 3 ∷ 3 ∷ 0 ∷ 0 ∷ 2 ∷ 2 ∷ 2 ∷ 1 ∷ 4 ∷ 1 ∷ 3 ∷ [])) (nums (1 ∷ 0 ∷ 1 ∷ 2 ∷ 0 ∷ 0 ∷ 0 ∷ [])) 1802 20000 ≡ refused 6
+unfolding askIntersect
+e63 = refl

@@ -128,54 +128,62 @@ e29 : askFindNnzIndex (nums (2 ∷ 0 ∷ 1 ∷ 2 ∷ 2 ∷ 0 ∷ 1 ∷ 0 ∷ 0 �
 unfolding askFindNnzIndex
 e29 = refl
 
-e30 : askFindNnzIndex (nums (0 ∷ 4 ∷ 4 ∷ 3 ∷ 2 ∷ 3 ∷ 1 ∷ 0 ∷ 0 ∷ 0 ∷ [])) (nums (1 ∷ 0 ∷ 1 ∷ 0 ∷ [])) ≡ given (found 7)
+e30 : askFindNnzIndex (nums (0 ∷ 2 ∷ 2 ∷ 256 ∷ 256 ∷ 0 ∷ 0 ∷ 0 ∷ [])) (nums (255 ∷ 255 ∷ [])) ≡ given (found 65535)
 unfolding askFindNnzIndex
 e30 = refl
 
--- findNnzIndexCall: refused 1
-e31 : askFindNnzIndex (nums (0 ∷ 0 ∷ 5 ∷ [])) (negsuc 0 ∷ []) ≡ refused 1
+e31 : askFindNnzIndex (nums (0 ∷ 4 ∷ 4 ∷ 3 ∷ 2 ∷ 3 ∷ 1 ∷ 0 ∷ 0 ∷ 0 ∷ [])) (nums (1 ∷ 0 ∷ 1 ∷ 0 ∷ [])) ≡ given (found 7)
 unfolding askFindNnzIndex
 e31 = refl
 
-e32 : askFindNnzIndex (nums (1 ∷ 0 ∷ 2147483647 ∷ 3 ∷ 0 ∷ 0 ∷ 0 ∷ [])) (nums (2 ∷ [])) ≡ refused 1
+-- findNnzIndexCall: refused 1
+e32 : askFindNnzIndex (nums (0 ∷ 0 ∷ 5 ∷ [])) (negsuc 0 ∷ []) ≡ refused 1
 unfolding askFindNnzIndex
 e32 = refl
 
--- findNnzIndexCall: refused 3
-e33 : askFindNnzIndex [] (negsuc 0 ∷ []) ≡ refused 3
+e33 : askFindNnzIndex (nums (1 ∷ 0 ∷ 2147483647 ∷ 3 ∷ 0 ∷ 0 ∷ 0 ∷ [])) (nums (2 ∷ [])) ≡ refused 1
 unfolding askFindNnzIndex
 e33 = refl
 
-e34 : askFindNnzIndex [] (nums (1 ∷ 0 ∷ [])) ≡ refused 3
+-- findNnzIndexCall: refused 3
+e34 : askFindNnzIndex [] (negsuc 0 ∷ []) ≡ refused 3
 unfolding askFindNnzIndex
 e34 = refl
 
-e35 : askFindNnzIndex (nums (0 ∷ 0 ∷ 0 ∷ 0 ∷ 1 ∷ 2147483647 ∷ 1 ∷ [])) [] ≡ refused 3
+e35 : askFindNnzIndex [] (nums (1 ∷ 0 ∷ [])) ≡ refused 3
 unfolding askFindNnzIndex
 e35 = refl
 
--- findNnzIndexCall: refused 4
-e36 : askFindNnzIndex (nums (2 ∷ 0 ∷ 1 ∷ 2 ∷ 2 ∷ 1 ∷ 0 ∷ 0 ∷ 0 ∷ [])) (nums (0 ∷ [])) ≡ refused 4
+e36 : askFindNnzIndex (nums (0 ∷ 0 ∷ 0 ∷ 0 ∷ 1 ∷ 2147483647 ∷ 1 ∷ [])) [] ≡ refused 3
 unfolding askFindNnzIndex
 e36 = refl
 
-e37 : askFindNnzIndex (nums (2 ∷ 0 ∷ 1 ∷ 2 ∷ 2 ∷ 1 ∷ 0 ∷ 0 ∷ 0 ∷ [])) (negsuc 0 ∷ []) ≡ refused 4
+-- findNnzIndexCall: refused 4
+e37 : askFindNnzIndex (nums (2 ∷ 0 ∷ 1 ∷ 2 ∷ 2 ∷ 1 ∷ 0 ∷ 0 ∷ 0 ∷ [])) (nums (0 ∷ [])) ≡ refused 4
 unfolding askFindNnzIndex
 e37 = refl
 
-e38 : askFindNnzIndex (nums (2 ∷ 0 ∷ 1 ∷ 2 ∷ 2 ∷ 1 ∷ 0 ∷ 0 ∷ 0 ∷ [])) (nums (0 ∷ 0 ∷ [])) ≡ refused 4
+e38 : askFindNnzIndex (nums (2 ∷ 0 ∷ 1 ∷ 2 ∷ 2 ∷ 1 ∷ 0 ∷ 0 ∷ 0 ∷ [])) (negsuc 0 ∷ []) ≡ refused 4
 unfolding askFindNnzIndex
 e38 = refl
 
--- findNnzIndexCall: refused 5
-e39 : askFindNnzIndex (nums (1 ∷ 0 ∷ 1 ∷ 1 ∷ 0 ∷ 0 ∷ 0 ∷ [])) [] ≡ refused 5
+e39 : askFindNnzIndex (nums (2 ∷ 0 ∷ 1 ∷ 2 ∷ 2 ∷ 1 ∷ 0 ∷ 0 ∷ 0 ∷ [])) (nums (0 ∷ 0 ∷ [])) ≡ refused 4
 unfolding askFindNnzIndex
 e39 = refl
 
-e40 : askFindNnzIndex (nums (0 ∷ 1 ∷ 1 ∷ 2 ∷ 0 ∷ 0 ∷ 0 ∷ [])) (negsuc 0 ∷ []) ≡ refused 5
+-- findNnzIndexCall: refused 5
+e40 : askFindNnzIndex (nums (1 ∷ 0 ∷ 1 ∷ 1 ∷ 0 ∷ 0 ∷ 0 ∷ [])) [] ≡ refused 5
 unfolding askFindNnzIndex
 e40 = refl
 
-e41 : askFindNnzIndex (nums (1 ∷ 0 ∷ 1 ∷ 2 ∷ 0 ∷ 0 ∷ 0 ∷ [])) (negsuc 2147483647 ∷ []) ≡ refused 5
+e41 : askFindNnzIndex (nums (0 ∷ 1 ∷ 1 ∷ 2 ∷ 0 ∷ 0 ∷ 0 ∷ [])) (negsuc 0 ∷ []) ≡ refused 5
 unfolding askFindNnzIndex
 e41 = refl
+
+e42 : askFindNnzIndex (nums (0 ∷ 1 ∷ 1 ∷ 1 ∷ 0 ∷ 0 ∷ 0 ∷ [])) (nums (65536 ∷ [])) ≡ refused 5
+unfolding askFindNnzIndex
+e42 = refl
+
+e43 : askFindNnzIndex (nums (1 ∷ 0 ∷ 1 ∷ 2 ∷ 0 ∷ 0 ∷ 0 ∷ [])) (negsuc 2147483647 ∷ []) ≡ refused 5
+unfolding askFindNnzIndex
+e43 = refl

@@ -124,100 +124,132 @@ e28 : askSound (nums (0 ∷ 1 ∷ 1 ∷ 65536 ∷ 0 ∷ 0 ∷ 0 ∷ [])) ≡ giv
 unfolding askSound
 e28 = refl
 
-e29 : askSound (nums (2 ∷ 1 ∷ 1 ∷ 65537 ∷ 0 ∷ 0 ∷ 0 ∷ [])) ≡ given false
+e29 : askSound (nums (0 ∷ 1 ∷ 1 ∷ 65537 ∷ 0 ∷ 0 ∷ 0 ∷ [])) ≡ given false
 unfolding askSound
 e29 = refl
 
-e30 : askSound (nums (2 ∷ 0 ∷ 0 ∷ 1 ∷ 2 ∷ 14 ∷ 14 ∷ 0 ∷ [])) ≡ given false
+e30 : askSound (nums (2 ∷ 1 ∷ 1 ∷ 65537 ∷ 0 ∷ 0 ∷ 0 ∷ [])) ≡ given false
 unfolding askSound
 e30 = refl
 
-e31 : askSound (nums (1 ∷ 0 ∷ 1 ∷ 3 ∷ 0 ∷ 1 ∷ 0 ∷ 2 ∷ 0 ∷ [])) ≡ given true
+e31 : askSound (nums (2 ∷ 0 ∷ 0 ∷ 1 ∷ 2 ∷ 14 ∷ 14 ∷ 0 ∷ [])) ≡ given false
 unfolding askSound
 e31 = refl
 
-e32 : askSound (nums (1 ∷ 0 ∷ 3 ∷ 2 ∷ 3 ∷ 2 ∷ 0 ∷ 0 ∷ 0 ∷ [])) ≡ given false
+e32 : askSound (nums (1 ∷ 0 ∷ 1 ∷ 3 ∷ 0 ∷ 1 ∷ 0 ∷ 2 ∷ 0 ∷ [])) ≡ given true
 unfolding askSound
 e32 = refl
 
--- ordered: answered
-e33 : askOrdered [] ≡ given false
-unfolding askOrdered
+e33 : askSound (nums (1 ∷ 0 ∷ 3 ∷ 2 ∷ 3 ∷ 2 ∷ 0 ∷ 0 ∷ 0 ∷ [])) ≡ given false
+unfolding askSound
 e33 = refl
 
-e34 : askOrdered (nums (0 ∷ [])) ≡ given false
-unfolding askOrdered
+e34 : askSound (nums (0 ∷ 2 ∷ 2 ∷ 0 ∷ 65536 ∷ 0 ∷ 0 ∷ 0 ∷ [])) ≡ given true
+unfolding askSound
 e34 = refl
 
-e35 : askOrdered (nums (2 ∷ [])) ≡ given false
-unfolding askOrdered
+e35 : askSound (nums (0 ∷ 2 ∷ 2 ∷ 0 ∷ 65537 ∷ 0 ∷ 0 ∷ 0 ∷ [])) ≡ given false
+unfolding askSound
 e35 = refl
 
-e36 : askOrdered (nums (0 ∷ 1 ∷ [])) ≡ given false
-unfolding askOrdered
+e36 : askSound (nums (0 ∷ 2 ∷ 2 ∷ 256 ∷ 256 ∷ 0 ∷ 0 ∷ 0 ∷ [])) ≡ given true
+unfolding askSound
 e36 = refl
 
-e37 : askOrdered (nums (1 ∷ 0 ∷ [])) ≡ given false
-unfolding askOrdered
+e37 : askSound (nums (0 ∷ 4 ∷ 4 ∷ 1 ∷ 1 ∷ 1 ∷ 1 ∷ 0 ∷ 0 ∷ 0 ∷ [])) ≡ given true
+unfolding askSound
 e37 = refl
 
-e38 : askOrdered (nums (0 ∷ 0 ∷ 5 ∷ [])) ≡ given false
-unfolding askOrdered
+e38 : askSound (nums (0 ∷ 1 ∷ 1 ∷ 1 ∷ 0 ∷ 1 ∷ 65535 ∷ 0 ∷ 0 ∷ [])) ≡ given true
+unfolding askSound
 e38 = refl
 
-e39 : askOrdered (nums (2 ∷ 1 ∷ 3 ∷ 1 ∷ [])) ≡ given false
-unfolding askOrdered
+e39 : askSound (nums (0 ∷ 1 ∷ 1 ∷ 1 ∷ 0 ∷ 1 ∷ 65536 ∷ 0 ∷ 0 ∷ [])) ≡ given false
+unfolding askSound
 e39 = refl
 
-e40 : askOrdered (pos 2 ∷ pos 0 ∷ pos 0 ∷ pos 1 ∷ pos 0 ∷ pos 1 ∷ negsuc 0 ∷ []) ≡ given false
-unfolding askOrdered
+e40 : askSound (nums (0 ∷ 5 ∷ 5 ∷ 1 ∷ 1 ∷ 1 ∷ 1 ∷ 1 ∷ 0 ∷ 0 ∷ 0 ∷ [])) ≡ given false
+unfolding askSound
 e40 = refl
 
-e41 : askOrdered (nums (2 ∷ 0 ∷ 1 ∷ 2 ∷ 2 ∷ 0 ∷ 1 ∷ 0 ∷ 0 ∷ [])) ≡ given true
+-- ordered: answered
+e41 : askOrdered [] ≡ given false
 unfolding askOrdered
 e41 = refl
 
-e42 : askOrdered (nums (2 ∷ 0 ∷ 1 ∷ 3 ∷ 2 ∷ 2 ∷ 1 ∷ 0 ∷ 0 ∷ [])) ≡ given false
+e42 : askOrdered (nums (0 ∷ [])) ≡ given false
 unfolding askOrdered
 e42 = refl
 
--- row: answered
-e43 : askRow [] (pos 0) ≡ given []
-unfolding askRow
+e43 : askOrdered (nums (2 ∷ [])) ≡ given false
+unfolding askOrdered
 e43 = refl
 
-e44 : askRow [] (pos 1) ≡ given []
-unfolding askRow
+e44 : askOrdered (nums (0 ∷ 1 ∷ [])) ≡ given false
+unfolding askOrdered
 e44 = refl
 
-e45 : askRow [] (pos 2) ≡ given []
-unfolding askRow
+e45 : askOrdered (nums (1 ∷ 0 ∷ [])) ≡ given false
+unfolding askOrdered
 e45 = refl
 
-e46 : askRow [] (pos 3) ≡ given []
-unfolding askRow
+e46 : askOrdered (nums (0 ∷ 0 ∷ 5 ∷ [])) ≡ given false
+unfolding askOrdered
 e46 = refl
 
-e47 : askRow (nums (0 ∷ [])) (negsuc 0) ≡ given []
-unfolding askRow
+e47 : askOrdered (nums (2 ∷ 1 ∷ 3 ∷ 1 ∷ [])) ≡ given false
+unfolding askOrdered
 e47 = refl
 
-e48 : askRow [] (pos 2147483647) ≡ given []
-unfolding askRow
+e48 : askOrdered (pos 2 ∷ pos 0 ∷ pos 0 ∷ pos 1 ∷ pos 0 ∷ pos 1 ∷ negsuc 0 ∷ []) ≡ given false
+unfolding askOrdered
 e48 = refl
 
-e49 : askRow [] (negsuc 2147483647) ≡ given []
-unfolding askRow
+e49 : askOrdered (nums (2 ∷ 0 ∷ 1 ∷ 2 ∷ 2 ∷ 0 ∷ 1 ∷ 0 ∷ 0 ∷ [])) ≡ given true
+unfolding askOrdered
 e49 = refl
 
-e50 : askRow (nums (0 ∷ 0 ∷ 0 ∷ 0 ∷ 0 ∷ 0 ∷ [])) (pos 0) ≡ given []
-unfolding askRow
+e50 : askOrdered (nums (2 ∷ 0 ∷ 1 ∷ 3 ∷ 2 ∷ 2 ∷ 1 ∷ 0 ∷ 0 ∷ [])) ≡ given false
+unfolding askOrdered
 e50 = refl
 
-e51 : askRow (nums (2 ∷ 0 ∷ 1 ∷ 1 ∷ 1 ∷ 0 ∷ 0 ∷ [])) (pos 0) ≡ given []
+-- row: answered
+e51 : askRow [] (pos 0) ≡ given []
 unfolding askRow
 e51 = refl
 
-e52 : askRow (nums (2 ∷ 0 ∷ 1 ∷ 1 ∷ 1 ∷ 0 ∷ 0 ∷ 0 ∷ [])) (pos 0) ≡ given (nums (0 ∷ []))
+e52 : askRow [] (pos 1) ≡ given []
 unfolding askRow
 e52 = refl
+
+e53 : askRow [] (pos 2) ≡ given []
+unfolding askRow
+e53 = refl
+
+e54 : askRow [] (pos 3) ≡ given []
+unfolding askRow
+e54 = refl
+
+e55 : askRow (nums (0 ∷ [])) (negsuc 0) ≡ given []
+unfolding askRow
+e55 = refl
+
+e56 : askRow [] (pos 2147483647) ≡ given []
+unfolding askRow
+e56 = refl
+
+e57 : askRow [] (negsuc 2147483647) ≡ given []
+unfolding askRow
+e57 = refl
+
+e58 : askRow (nums (0 ∷ 0 ∷ 0 ∷ 0 ∷ 0 ∷ 0 ∷ [])) (pos 0) ≡ given []
+unfolding askRow
+e58 = refl
+
+e59 : askRow (nums (2 ∷ 0 ∷ 1 ∷ 1 ∷ 1 ∷ 0 ∷ 0 ∷ [])) (pos 0) ≡ given []
+unfolding askRow
+e59 = refl
+
+e60 : askRow (nums (2 ∷ 0 ∷ 1 ∷ 1 ∷ 1 ∷ 0 ∷ 0 ∷ 0 ∷ [])) (pos 0) ≡ given (nums (0 ∷ []))
+unfolding askRow
+e60 = refl

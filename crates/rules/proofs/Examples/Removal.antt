@@ -224,86 +224,94 @@ e51 : askIntersect (nums (2 ∷ 0 ∷ 2 ∷ 2 ∷ 128 ∷ 0 ∷ 0 ∷ 0 ∷ []))
 unfolding askIntersect
 e51 = refl
 
--- intersectCall: refused 1
-e52 : askIntersect (nums (0 ∷ 0 ∷ 5 ∷ [])) [] 0 0 ≡ refused 1
+e52 : askIntersect (nums (2 ∷ 1 ∷ 2 ∷ 1 ∷ 128 ∷ 0 ∷ 1 ∷ 0 ∷ 0 ∷ 5 ∷ 0 ∷ [])) (nums (2 ∷ 0 ∷ 2 ∷ 1 ∷ 128 ∷ 1 ∷ 0 ∷ 1 ∷ 0 ∷ 0 ∷ [])) 1802 10812 ≡ given (nums (2 ∷ 0 ∷ 2 ∷ 1 ∷ 128 ∷ 0 ∷ 0 ∷ 0 ∷ []))
 unfolding askIntersect
 e52 = refl
 
-e53 : askIntersect (nums (0 ∷ 0 ∷ 5 ∷ [])) [] 1802 10812 ≡ refused 1
+-- intersectCall: refused 1
+e53 : askIntersect (nums (0 ∷ 0 ∷ 5 ∷ [])) [] 0 0 ≡ refused 1
 unfolding askIntersect
 e53 = refl
 
-e54 : askIntersect (nums (0 ∷ 5 ∷ 5 ∷ 1 ∷ 1 ∷ 1 ∷ 1 ∷ 1 ∷ 0 ∷ 0 ∷ 0 ∷ [])) (nums (0 ∷ 2 ∷ 2 ∷ 4 ∷ 2 ∷ 0 ∷ 0 ∷ 0 ∷ [])) 2000 10812 ≡ refused 1
+e54 : askIntersect (nums (0 ∷ 0 ∷ 5 ∷ [])) [] 1802 10812 ≡ refused 1
 unfolding askIntersect
 e54 = refl
 
--- intersectCall: refused 11
-e55 : askIntersect (nums (0 ∷ 1 ∷ 1 ∷ 1 ∷ 0 ∷ 1 ∷ 0 ∷ 0 ∷ 0 ∷ [])) (nums (2 ∷ 1 ∷ 1 ∷ 1 ∷ 0 ∷ 0 ∷ 0 ∷ [])) 1802 10812 ≡ refused 11
+e55 : askIntersect (nums (0 ∷ 5 ∷ 5 ∷ 1 ∷ 1 ∷ 1 ∷ 1 ∷ 1 ∷ 0 ∷ 0 ∷ 0 ∷ [])) (nums (0 ∷ 2 ∷ 2 ∷ 4 ∷ 2 ∷ 0 ∷ 0 ∷ 0 ∷ [])) 2000 10812 ≡ refused 1
 unfolding askIntersect
 e55 = refl
 
--- intersectCall: refused 12
-e56 : askIntersect (nums (2 ∷ 3 ∷ 3 ∷ 2 ∷ 2 ∷ 200 ∷ 1 ∷ 0 ∷ 0 ∷ [])) (nums (2 ∷ 1 ∷ 3 ∷ 2 ∷ 2 ∷ 200 ∷ 0 ∷ 0 ∷ 0 ∷ [])) 1802 10812 ≡ refused 12
+-- intersectCall: refused 11
+e56 : askIntersect (nums (0 ∷ 1 ∷ 1 ∷ 1 ∷ 0 ∷ 1 ∷ 0 ∷ 0 ∷ 0 ∷ [])) (nums (2 ∷ 1 ∷ 1 ∷ 1 ∷ 0 ∷ 0 ∷ 0 ∷ [])) 1802 10812 ≡ refused 11
 unfolding askIntersect
 e56 = refl
 
--- intersectCall: refused 13
-e57 : askIntersect (nums (1 ∷ 0 ∷ 1 ∷ 129 ∷ 0 ∷ 0 ∷ 0 ∷ [])) (nums (2 ∷ 0 ∷ 1 ∷ 129 ∷ 0 ∷ 0 ∷ 0 ∷ [])) 1802 10812 ≡ refused 13
+-- intersectCall: refused 12
+e57 : askIntersect (nums (2 ∷ 3 ∷ 3 ∷ 2 ∷ 2 ∷ 200 ∷ 1 ∷ 0 ∷ 0 ∷ [])) (nums (2 ∷ 1 ∷ 3 ∷ 2 ∷ 2 ∷ 200 ∷ 0 ∷ 0 ∷ 0 ∷ [])) 1802 10812 ≡ refused 12
 unfolding askIntersect
 e57 = refl
 
-e58 : askIntersect (nums (2 ∷ 0 ∷ 2 ∷ 2 ∷ 129 ∷ 0 ∷ 0 ∷ 0 ∷ [])) (nums (2 ∷ 1 ∷ 2 ∷ 2 ∷ 129 ∷ 1 ∷ 0 ∷ 0 ∷ 0 ∷ [])) 1802 10812 ≡ refused 13
+-- intersectCall: refused 13
+e58 : askIntersect (nums (1 ∷ 0 ∷ 1 ∷ 129 ∷ 0 ∷ 0 ∷ 0 ∷ [])) (nums (2 ∷ 0 ∷ 1 ∷ 129 ∷ 0 ∷ 0 ∷ 0 ∷ [])) 1802 10812 ≡ refused 13
 unfolding askIntersect
 e58 = refl
 
-e59 : askIntersect (nums (2 ∷ 1 ∷ 2 ∷ 1 ∷ 129 ∷ 0 ∷ 1 ∷ 0 ∷ 0 ∷ 0 ∷ 0 ∷ [])) (nums (2 ∷ 0 ∷ 2 ∷ 1 ∷ 129 ∷ 0 ∷ 0 ∷ 0 ∷ [])) 1802 10812 ≡ refused 13
+e59 : askIntersect (nums (2 ∷ 0 ∷ 2 ∷ 2 ∷ 129 ∷ 0 ∷ 0 ∷ 0 ∷ [])) (nums (2 ∷ 1 ∷ 2 ∷ 2 ∷ 129 ∷ 1 ∷ 0 ∷ 0 ∷ 0 ∷ [])) 1802 10812 ≡ refused 13
 unfolding askIntersect
 e59 = refl
 
--- intersectCall: refused 2
-e60 : askIntersect [] (nums (0 ∷ 0 ∷ 0 ∷ 0 ∷ 0 ∷ 0 ∷ [])) 0 0 ≡ refused 2
+e60 : askIntersect (nums (2 ∷ 1 ∷ 2 ∷ 1 ∷ 129 ∷ 0 ∷ 1 ∷ 0 ∷ 0 ∷ 0 ∷ 0 ∷ [])) (nums (2 ∷ 0 ∷ 2 ∷ 1 ∷ 129 ∷ 0 ∷ 0 ∷ 0 ∷ [])) 1802 10812 ≡ refused 13
 unfolding askIntersect
 e60 = refl
 
-e61 : askIntersect (nums (0 ∷ 0 ∷ 0 ∷ 0 ∷ 0 ∷ 0 ∷ [])) [] 0 0 ≡ refused 2
+e61 : askIntersect (nums (2 ∷ 1 ∷ 2 ∷ 1 ∷ 129 ∷ 0 ∷ 1 ∷ 0 ∷ 0 ∷ 5 ∷ 0 ∷ [])) (nums (2 ∷ 0 ∷ 2 ∷ 1 ∷ 129 ∷ 1 ∷ 0 ∷ 1 ∷ 0 ∷ 0 ∷ [])) 1802 10812 ≡ refused 13
 unfolding askIntersect
 e61 = refl
 
-e62 : askIntersect [] (nums (2 ∷ 0 ∷ 0 ∷ 1 ∷ 0 ∷ 0 ∷ [])) 1802 10811 ≡ refused 2
+-- intersectCall: refused 2
+e62 : askIntersect [] (nums (0 ∷ 0 ∷ 0 ∷ 0 ∷ 0 ∷ 0 ∷ [])) 0 0 ≡ refused 2
 unfolding askIntersect
 e62 = refl
 
-e63 : askIntersect (nums (2 ∷ 0 ∷ 1 ∷ 2 ∷ 2 ∷ 1 ∷ 0 ∷ 0 ∷ 0 ∷ [])) (nums (0 ∷ 0 ∷ 0 ∷ 0 ∷ 0 ∷ 0 ∷ [])) 0 0 ≡ refused 2
+e63 : askIntersect (nums (0 ∷ 0 ∷ 0 ∷ 0 ∷ 0 ∷ 0 ∷ [])) [] 0 0 ≡ refused 2
 unfolding askIntersect
 e63 = refl
 
--- intersectCall: refused 3
-e64 : askIntersect [] (nums (0 ∷ 0 ∷ 0 ∷ 0 ∷ 0 ∷ 0 ∷ [])) 1802 10812 ≡ refused 3
+e64 : askIntersect [] (nums (2 ∷ 0 ∷ 0 ∷ 1 ∷ 0 ∷ 0 ∷ [])) 1802 10811 ≡ refused 2
 unfolding askIntersect
 e64 = refl
 
-e65 : askIntersect (nums (0 ∷ 0 ∷ 0 ∷ 0 ∷ 0 ∷ 0 ∷ [])) [] 1802 10812 ≡ refused 3
+e65 : askIntersect (nums (2 ∷ 0 ∷ 1 ∷ 2 ∷ 2 ∷ 1 ∷ 0 ∷ 0 ∷ 0 ∷ [])) (nums (0 ∷ 0 ∷ 0 ∷ 0 ∷ 0 ∷ 0 ∷ [])) 0 0 ≡ refused 2
 unfolding askIntersect
 e65 = refl
 
-e66 : askIntersect (nums (0 ∷ 1 ∷ 1 ∷ 1 ∷ 0 ∷ 0 ∷ 0 ∷ [])) [] 1802 10812 ≡ refused 3
+-- intersectCall: refused 3
+e66 : askIntersect [] (nums (0 ∷ 0 ∷ 0 ∷ 0 ∷ 0 ∷ 0 ∷ [])) 1802 10812 ≡ refused 3
 unfolding askIntersect
 e66 = refl
 
-e67 : askIntersect (pos 2 ∷ pos 2 ∷ negsuc 2147483647 ∷ pos 4 ∷ pos 3 ∷ pos 1 ∷ pos 0 ∷ pos 0 ∷ []) (nums (2 ∷ 2 ∷ 2 ∷ 4 ∷ 3 ∷ 1 ∷ 0 ∷ 0 ∷ [])) 1802 10812 ≡ refused 3
+e67 : askIntersect (nums (0 ∷ 0 ∷ 0 ∷ 0 ∷ 0 ∷ 0 ∷ [])) [] 1802 10812 ≡ refused 3
 unfolding askIntersect
 e67 = refl
 
--- intersectCall: refused 4
-e68 : askIntersect (nums (2 ∷ 0 ∷ 1 ∷ 2 ∷ 2 ∷ 1 ∷ 0 ∷ 0 ∷ 0 ∷ [])) (nums (0 ∷ 0 ∷ 0 ∷ 0 ∷ 0 ∷ 0 ∷ [])) 1802 10812 ≡ refused 4
+e68 : askIntersect (nums (0 ∷ 1 ∷ 1 ∷ 1 ∷ 0 ∷ 0 ∷ 0 ∷ [])) [] 1802 10812 ≡ refused 3
 unfolding askIntersect
 e68 = refl
 
-e69 : askIntersect (nums (0 ∷ 1 ∷ 1 ∷ 2 ∷ 0 ∷ 0 ∷ 0 ∷ [])) (nums (2 ∷ 0 ∷ 1 ∷ 2 ∷ 2 ∷ 1 ∷ 0 ∷ 0 ∷ 0 ∷ [])) 1802 10812 ≡ refused 4
+e69 : askIntersect (pos 2 ∷ pos 2 ∷ negsuc 2147483647 ∷ pos 4 ∷ pos 3 ∷ pos 1 ∷ pos 0 ∷ pos 0 ∷ []) (nums (2 ∷ 2 ∷ 2 ∷ 4 ∷ 3 ∷ 1 ∷ 0 ∷ 0 ∷ [])) 1802 10812 ≡ refused 3
 unfolding askIntersect
 e69 = refl
 
--- intersectCall: refused 6
-e70 : askIntersect (nums (1 ∷ 0 ∷ 2 ∷ 3 ∷ 3 ∷ 0 ∷ 0 ∷ 2 ∷ 2 ∷ 2 ∷ 1 ∷ 4 ∷ 1 ∷ 3 ∷ [])) (nums (1 ∷ 0 ∷ 1 ∷ 2 ∷ 0 ∷ 0 ∷ 0 ∷ [])) 1802 20000 ≡ refused 6
+-- intersectCall: refused 4
+e70 : askIntersect (nums (2 ∷ 0 ∷ 1 ∷ 2 ∷ 2 ∷ 1 ∷ 0 ∷ 0 ∷ 0 ∷ [])) (nums (0 ∷ 0 ∷ 0 ∷ 0 ∷ 0 ∷ 0 ∷ [])) 1802 10812 ≡ refused 4
 unfolding askIntersect
 e70 = refl
+
+e71 : askIntersect (nums (0 ∷ 1 ∷ 1 ∷ 2 ∷ 0 ∷ 0 ∷ 0 ∷ [])) (nums (2 ∷ 0 ∷ 1 ∷ 2 ∷ 2 ∷ 1 ∷ 0 ∷ 0 ∷ 0 ∷ [])) 1802 10812 ≡ refused 4
+unfolding askIntersect
+e71 = refl
+
+-- intersectCall: refused 6
+e72 : askIntersect (nums (1 ∷ 0 ∷ 2 ∷ 3 ∷ 3 ∷ 0 ∷ 0 ∷ 2 ∷ 2 ∷ 2 ∷ 1 ∷ 4 ∷ 1 ∷ 3 ∷ [])) (nums (1 ∷ 0 ∷ 1 ∷ 2 ∷ 0 ∷ 0 ∷ 0 ∷ [])) 1802 20000 ≡ refused 6
+unfolding askIntersect
+e72 = refl

@@ -111,198 +111,206 @@ e24 : askBroadcastToShape (nums (1 ∷ 0 ∷ 2 ∷ 1 ∷ 1 ∷ 0 ∷ 0 ∷ 0 ∷
 unfolding askBroadcastToShape
 e24 = refl
 
--- broadcastToShapeCall: refused 13
-e25 : askBroadcastToShape (nums (2 ∷ 0 ∷ 1 ∷ 1 ∷ 1 ∷ 0 ∷ 0 ∷ 0 ∷ [])) (nums (1 ∷ 129 ∷ [])) 1802 10812 ≡ refused 13
+e25 : askBroadcastToShape (nums (1 ∷ 0 ∷ 2 ∷ 1 ∷ 1 ∷ 0 ∷ 1 ∷ 0 ∷ 0 ∷ 3 ∷ 0 ∷ [])) (nums (2 ∷ 200 ∷ 129 ∷ [])) 1802 10812 ≡ refused 12
 unfolding askBroadcastToShape
 e25 = refl
 
-e26 : askBroadcastToShape (nums (0 ∷ 1 ∷ 1 ∷ 1 ∷ 0 ∷ 1 ∷ 0 ∷ 3 ∷ 1 ∷ 0 ∷ 0 ∷ [])) (nums (1 ∷ 129 ∷ [])) 1802 10812 ≡ refused 13
+-- broadcastToShapeCall: refused 13
+e26 : askBroadcastToShape (nums (2 ∷ 0 ∷ 1 ∷ 1 ∷ 1 ∷ 0 ∷ 0 ∷ 0 ∷ [])) (nums (1 ∷ 129 ∷ [])) 1802 10812 ≡ refused 13
 unfolding askBroadcastToShape
 e26 = refl
 
--- broadcastToShapeCall: refused 2
-e27 : askBroadcastToShape [] (negsuc 0 ∷ []) 0 0 ≡ refused 2
+e27 : askBroadcastToShape (nums (0 ∷ 1 ∷ 1 ∷ 1 ∷ 0 ∷ 1 ∷ 0 ∷ 3 ∷ 0 ∷ [])) (nums (1 ∷ 129 ∷ [])) 1802 10812 ≡ refused 13
 unfolding askBroadcastToShape
 e27 = refl
 
-e28 : askBroadcastToShape (nums (0 ∷ 0 ∷ 0 ∷ 0 ∷ 0 ∷ 0 ∷ [])) (negsuc 0 ∷ []) 0 0 ≡ refused 2
+e28 : askBroadcastToShape (nums (0 ∷ 1 ∷ 1 ∷ 1 ∷ 0 ∷ 1 ∷ 0 ∷ 3 ∷ 1 ∷ 0 ∷ 0 ∷ [])) (nums (1 ∷ 129 ∷ [])) 1802 10812 ≡ refused 13
 unfolding askBroadcastToShape
 e28 = refl
 
-e29 : askBroadcastToShape (nums (2 ∷ 0 ∷ 0 ∷ 1 ∷ 0 ∷ 0 ∷ [])) (nums (0 ∷ [])) 0 10812 ≡ refused 2
+-- broadcastToShapeCall: refused 2
+e29 : askBroadcastToShape [] (negsuc 0 ∷ []) 0 0 ≡ refused 2
 unfolding askBroadcastToShape
 e29 = refl
 
-e30 : askBroadcastToShape (nums (0 ∷ 0 ∷ 0 ∷ 0 ∷ 0 ∷ 0 ∷ [])) (nums (0 ∷ [])) 1802 10811 ≡ refused 2
+e30 : askBroadcastToShape (nums (0 ∷ 0 ∷ 0 ∷ 0 ∷ 0 ∷ 0 ∷ [])) (negsuc 0 ∷ []) 0 0 ≡ refused 2
 unfolding askBroadcastToShape
 e30 = refl
 
-e31 : askBroadcastToShape (nums (1 ∷ 2 ∷ 2 ∷ 129 ∷ 129 ∷ 0 ∷ 0 ∷ 0 ∷ [])) (nums (0 ∷ [])) 1801 10813 ≡ refused 2
+e31 : askBroadcastToShape (nums (2 ∷ 0 ∷ 0 ∷ 1 ∷ 0 ∷ 0 ∷ [])) (nums (0 ∷ [])) 0 10812 ≡ refused 2
 unfolding askBroadcastToShape
 e31 = refl
 
-e32 : askBroadcastToShape (nums (2 ∷ 0 ∷ 0 ∷ 1 ∷ 0 ∷ 1 ∷ 2147483647 ∷ [])) (nums (0 ∷ [])) 1801 10811 ≡ refused 2
+e32 : askBroadcastToShape (nums (0 ∷ 0 ∷ 0 ∷ 0 ∷ 0 ∷ 0 ∷ [])) (nums (0 ∷ [])) 1802 10811 ≡ refused 2
 unfolding askBroadcastToShape
 e32 = refl
 
--- broadcastToShapeCall: refused 3
-e33 : askBroadcastToShape [] (negsuc 0 ∷ []) 1802 10812 ≡ refused 3
+e33 : askBroadcastToShape (nums (1 ∷ 2 ∷ 2 ∷ 129 ∷ 129 ∷ 0 ∷ 0 ∷ 0 ∷ [])) (nums (0 ∷ [])) 1801 10813 ≡ refused 2
 unfolding askBroadcastToShape
 e33 = refl
 
-e34 : askBroadcastToShape [] (nums (1 ∷ 1 ∷ [])) 1802 10812 ≡ refused 3
+e34 : askBroadcastToShape (nums (2 ∷ 0 ∷ 0 ∷ 1 ∷ 0 ∷ 1 ∷ 2147483647 ∷ [])) (nums (0 ∷ [])) 1801 10811 ≡ refused 2
 unfolding askBroadcastToShape
 e34 = refl
 
-e35 : askBroadcastToShape [] (nums (4 ∷ 2 ∷ 2 ∷ 2 ∷ 2 ∷ [])) 1802 10812 ≡ refused 3
+-- broadcastToShapeCall: refused 3
+e35 : askBroadcastToShape [] (negsuc 0 ∷ []) 1802 10812 ≡ refused 3
 unfolding askBroadcastToShape
 e35 = refl
 
--- broadcastToShapeCall: refused 5
-e36 : askBroadcastToShape (nums (0 ∷ 0 ∷ 0 ∷ 0 ∷ 0 ∷ 0 ∷ [])) [] 1802 10812 ≡ refused 5
+e36 : askBroadcastToShape [] (nums (1 ∷ 1 ∷ [])) 1802 10812 ≡ refused 3
 unfolding askBroadcastToShape
 e36 = refl
 
-e37 : askBroadcastToShape (nums (0 ∷ 0 ∷ 0 ∷ 0 ∷ 0 ∷ 0 ∷ [])) (negsuc 0 ∷ []) 1802 10812 ≡ refused 5
+e37 : askBroadcastToShape [] (nums (4 ∷ 2 ∷ 2 ∷ 2 ∷ 2 ∷ [])) 1802 10812 ≡ refused 3
 unfolding askBroadcastToShape
 e37 = refl
 
-e38 : askBroadcastToShape (nums (2 ∷ 0 ∷ 0 ∷ 1 ∷ 0 ∷ 0 ∷ [])) (nums (2 ∷ 65536 ∷ 2 ∷ [])) 1802 10812 ≡ refused 5
+-- broadcastToShapeCall: refused 5
+e38 : askBroadcastToShape (nums (0 ∷ 0 ∷ 0 ∷ 0 ∷ 0 ∷ 0 ∷ [])) [] 1802 10812 ≡ refused 5
 unfolding askBroadcastToShape
 e38 = refl
 
-e39 : askBroadcastToShape (nums (1 ∷ 0 ∷ 2 ∷ 3 ∷ 3 ∷ 0 ∷ 0 ∷ 0 ∷ [])) (pos 2 ∷ negsuc 2 ∷ pos 3 ∷ []) 1802 10813 ≡ refused 5
+e39 : askBroadcastToShape (nums (0 ∷ 0 ∷ 0 ∷ 0 ∷ 0 ∷ 0 ∷ [])) (negsuc 0 ∷ []) 1802 10812 ≡ refused 5
 unfolding askBroadcastToShape
 e39 = refl
 
--- broadcastToShapeCall: refused 6
-e40 : askBroadcastToShape (nums (0 ∷ 2 ∷ 2 ∷ 2 ∷ 1 ∷ 0 ∷ 0 ∷ 0 ∷ [])) (nums (2 ∷ 0 ∷ 1 ∷ [])) 1802 10812 ≡ refused 6
+e40 : askBroadcastToShape (nums (2 ∷ 0 ∷ 0 ∷ 1 ∷ 0 ∷ 0 ∷ [])) (nums (2 ∷ 65536 ∷ 2 ∷ [])) 1802 10812 ≡ refused 5
 unfolding askBroadcastToShape
 e40 = refl
 
-e41 : askBroadcastToShape (nums (1 ∷ 0 ∷ 2 ∷ 255 ∷ 255 ∷ 0 ∷ 0 ∷ 0 ∷ [])) (nums (1 ∷ 0 ∷ [])) 1802 10812 ≡ refused 6
+e41 : askBroadcastToShape (nums (1 ∷ 0 ∷ 2 ∷ 3 ∷ 3 ∷ 0 ∷ 0 ∷ 0 ∷ [])) (pos 2 ∷ negsuc 2 ∷ pos 3 ∷ []) 1802 10813 ≡ refused 5
 unfolding askBroadcastToShape
 e41 = refl
 
--- broadcastToRankCall: answered
-e42 : askBroadcastToRank (nums (2 ∷ 0 ∷ 0 ∷ 1 ∷ 0 ∷ 0 ∷ [])) (pos 0) 1802 10812 ≡ given (nums (2 ∷ 0 ∷ 0 ∷ 1 ∷ 0 ∷ 0 ∷ []))
-unfolding askBroadcastToRank
+-- broadcastToShapeCall: refused 6
+e42 : askBroadcastToShape (nums (0 ∷ 2 ∷ 2 ∷ 2 ∷ 1 ∷ 0 ∷ 0 ∷ 0 ∷ [])) (nums (2 ∷ 0 ∷ 1 ∷ [])) 1802 10812 ≡ refused 6
+unfolding askBroadcastToShape
 e42 = refl
 
-e43 : askBroadcastToRank (nums (0 ∷ 0 ∷ 0 ∷ 0 ∷ 0 ∷ 1 ∷ 3 ∷ [])) (pos 2) 2000 10813 ≡ given (nums (0 ∷ 2 ∷ 2 ∷ 1 ∷ 1 ∷ 0 ∷ 0 ∷ 1 ∷ 0 ∷ 0 ∷ 3 ∷ []))
-unfolding askBroadcastToRank
+e43 : askBroadcastToShape (nums (1 ∷ 0 ∷ 2 ∷ 255 ∷ 255 ∷ 0 ∷ 0 ∷ 0 ∷ [])) (nums (1 ∷ 0 ∷ [])) 1802 10812 ≡ refused 6
+unfolding askBroadcastToShape
 e43 = refl
 
-e44 : askBroadcastToRank (nums (0 ∷ 1 ∷ 1 ∷ 1 ∷ 0 ∷ 0 ∷ 0 ∷ [])) (pos 1) 1802 10812 ≡ given (nums (0 ∷ 1 ∷ 1 ∷ 1 ∷ 0 ∷ 0 ∷ 0 ∷ []))
+-- broadcastToRankCall: answered
+e44 : askBroadcastToRank (nums (2 ∷ 0 ∷ 0 ∷ 1 ∷ 0 ∷ 0 ∷ [])) (pos 0) 1802 10812 ≡ given (nums (2 ∷ 0 ∷ 0 ∷ 1 ∷ 0 ∷ 0 ∷ []))
 unfolding askBroadcastToRank
 e44 = refl
 
-e45 : askBroadcastToRank (nums (1 ∷ 0 ∷ 1 ∷ 1 ∷ 0 ∷ 0 ∷ 0 ∷ [])) (pos 1) 1802 20000 ≡ given (nums (1 ∷ 0 ∷ 1 ∷ 1 ∷ 0 ∷ 0 ∷ 0 ∷ []))
+e45 : askBroadcastToRank (nums (0 ∷ 0 ∷ 0 ∷ 0 ∷ 0 ∷ 1 ∷ 3 ∷ [])) (pos 2) 2000 10813 ≡ given (nums (0 ∷ 2 ∷ 2 ∷ 1 ∷ 1 ∷ 0 ∷ 0 ∷ 1 ∷ 0 ∷ 0 ∷ 3 ∷ []))
 unfolding askBroadcastToRank
 e45 = refl
 
-e46 : askBroadcastToRank (nums (2 ∷ 0 ∷ 1 ∷ 3 ∷ 0 ∷ 0 ∷ 0 ∷ [])) (pos 1) 1802 10812 ≡ given (nums (2 ∷ 0 ∷ 1 ∷ 3 ∷ 0 ∷ 0 ∷ 0 ∷ []))
+e46 : askBroadcastToRank (nums (0 ∷ 1 ∷ 1 ∷ 1 ∷ 0 ∷ 0 ∷ 0 ∷ [])) (pos 1) 1802 10812 ≡ given (nums (0 ∷ 1 ∷ 1 ∷ 1 ∷ 0 ∷ 0 ∷ 0 ∷ []))
 unfolding askBroadcastToRank
 e46 = refl
 
-e47 : askBroadcastToRank (nums (2 ∷ 1 ∷ 1 ∷ 0 ∷ 1 ∷ 0 ∷ 0 ∷ [])) (pos 1) 1802 10812 ≡ given (nums (2 ∷ 1 ∷ 1 ∷ 0 ∷ 1 ∷ 0 ∷ 0 ∷ []))
+e47 : askBroadcastToRank (nums (1 ∷ 0 ∷ 1 ∷ 1 ∷ 0 ∷ 0 ∷ 0 ∷ [])) (pos 1) 1802 20000 ≡ given (nums (1 ∷ 0 ∷ 1 ∷ 1 ∷ 0 ∷ 0 ∷ 0 ∷ []))
 unfolding askBroadcastToRank
 e47 = refl
 
-e48 : askBroadcastToRank (nums (0 ∷ 2 ∷ 2 ∷ 1 ∷ 1 ∷ 0 ∷ 0 ∷ 0 ∷ [])) (pos 0) 1802 10812 ≡ given (nums (0 ∷ 0 ∷ 0 ∷ 0 ∷ 0 ∷ 0 ∷ []))
+e48 : askBroadcastToRank (nums (2 ∷ 0 ∷ 1 ∷ 3 ∷ 0 ∷ 0 ∷ 0 ∷ [])) (pos 1) 1802 10812 ≡ given (nums (2 ∷ 0 ∷ 1 ∷ 3 ∷ 0 ∷ 0 ∷ 0 ∷ []))
 unfolding askBroadcastToRank
 e48 = refl
 
-e49 : askBroadcastToRank (nums (1 ∷ 0 ∷ 2 ∷ 2 ∷ 2 ∷ 0 ∷ 0 ∷ 0 ∷ [])) (pos 2) 1802 10812 ≡ given (nums (1 ∷ 0 ∷ 2 ∷ 2 ∷ 2 ∷ 0 ∷ 0 ∷ 0 ∷ []))
+e49 : askBroadcastToRank (nums (2 ∷ 1 ∷ 1 ∷ 0 ∷ 1 ∷ 0 ∷ 0 ∷ [])) (pos 1) 1802 10812 ≡ given (nums (2 ∷ 1 ∷ 1 ∷ 0 ∷ 1 ∷ 0 ∷ 0 ∷ []))
 unfolding askBroadcastToRank
 e49 = refl
 
-e50 : askBroadcastToRank (nums (1 ∷ 1 ∷ 2 ∷ 1 ∷ 1 ∷ 0 ∷ 0 ∷ 0 ∷ [])) (pos 2) 1802 10812 ≡ given (nums (1 ∷ 1 ∷ 2 ∷ 1 ∷ 1 ∷ 0 ∷ 0 ∷ 0 ∷ []))
+e50 : askBroadcastToRank (nums (0 ∷ 2 ∷ 2 ∷ 1 ∷ 1 ∷ 0 ∷ 0 ∷ 0 ∷ [])) (pos 0) 1802 10812 ≡ given (nums (0 ∷ 0 ∷ 0 ∷ 0 ∷ 0 ∷ 0 ∷ []))
 unfolding askBroadcastToRank
 e50 = refl
 
-e51 : askBroadcastToRank (nums (2 ∷ 0 ∷ 2 ∷ 0 ∷ 0 ∷ 0 ∷ 0 ∷ 0 ∷ [])) (pos 2) 1802 20000 ≡ given (nums (2 ∷ 0 ∷ 2 ∷ 0 ∷ 0 ∷ 0 ∷ 0 ∷ 0 ∷ []))
+e51 : askBroadcastToRank (nums (1 ∷ 0 ∷ 2 ∷ 2 ∷ 2 ∷ 0 ∷ 0 ∷ 0 ∷ [])) (pos 2) 1802 10812 ≡ given (nums (1 ∷ 0 ∷ 2 ∷ 2 ∷ 2 ∷ 0 ∷ 0 ∷ 0 ∷ []))
 unfolding askBroadcastToRank
 e51 = refl
 
-e52 : askBroadcastToRank (nums (2 ∷ 1 ∷ 2 ∷ 4 ∷ 4 ∷ 0 ∷ 0 ∷ 0 ∷ [])) (pos 2) 1802 10812 ≡ given (nums (2 ∷ 1 ∷ 2 ∷ 4 ∷ 4 ∷ 0 ∷ 0 ∷ 0 ∷ []))
+e52 : askBroadcastToRank (nums (1 ∷ 1 ∷ 2 ∷ 1 ∷ 1 ∷ 0 ∷ 0 ∷ 0 ∷ [])) (pos 2) 1802 10812 ≡ given (nums (1 ∷ 1 ∷ 2 ∷ 1 ∷ 1 ∷ 0 ∷ 0 ∷ 0 ∷ []))
 unfolding askBroadcastToRank
 e52 = refl
 
-e53 : askBroadcastToRank (nums (2 ∷ 2 ∷ 2 ∷ 1 ∷ 1 ∷ 1 ∷ 0 ∷ 0 ∷ [])) (pos 1) 1802 10812 ≡ given (nums (2 ∷ 1 ∷ 1 ∷ 1 ∷ 1 ∷ 0 ∷ 0 ∷ []))
+e53 : askBroadcastToRank (nums (2 ∷ 0 ∷ 2 ∷ 0 ∷ 0 ∷ 0 ∷ 0 ∷ 0 ∷ [])) (pos 2) 1802 20000 ≡ given (nums (2 ∷ 0 ∷ 2 ∷ 0 ∷ 0 ∷ 0 ∷ 0 ∷ 0 ∷ []))
 unfolding askBroadcastToRank
 e53 = refl
 
-e54 : askBroadcastToRank (nums (0 ∷ 3 ∷ 3 ∷ 1 ∷ 1 ∷ 1 ∷ 0 ∷ 0 ∷ 0 ∷ [])) (pos 1) 1802 10812 ≡ given (nums (0 ∷ 1 ∷ 1 ∷ 1 ∷ 0 ∷ 0 ∷ 0 ∷ []))
+e54 : askBroadcastToRank (nums (2 ∷ 1 ∷ 2 ∷ 4 ∷ 4 ∷ 0 ∷ 0 ∷ 0 ∷ [])) (pos 2) 1802 10812 ≡ given (nums (2 ∷ 1 ∷ 2 ∷ 4 ∷ 4 ∷ 0 ∷ 0 ∷ 0 ∷ []))
 unfolding askBroadcastToRank
 e54 = refl
 
-e55 : askBroadcastToRank (nums (0 ∷ 4 ∷ 4 ∷ 1 ∷ 1 ∷ 1 ∷ 1 ∷ 0 ∷ 0 ∷ 0 ∷ [])) (pos 0) 1803 10812 ≡ given (nums (0 ∷ 0 ∷ 0 ∷ 0 ∷ 0 ∷ 0 ∷ []))
+e55 : askBroadcastToRank (nums (2 ∷ 2 ∷ 2 ∷ 1 ∷ 1 ∷ 1 ∷ 0 ∷ 0 ∷ [])) (pos 1) 1802 10812 ≡ given (nums (2 ∷ 1 ∷ 1 ∷ 1 ∷ 1 ∷ 0 ∷ 0 ∷ []))
 unfolding askBroadcastToRank
 e55 = refl
 
-e56 : askBroadcastToRank (nums (2 ∷ 4 ∷ 4 ∷ 1 ∷ 1 ∷ 1 ∷ 1 ∷ 1 ∷ 0 ∷ 0 ∷ [])) (pos 0) 1802 10812 ≡ given (nums (2 ∷ 0 ∷ 0 ∷ 1 ∷ 0 ∷ 0 ∷ []))
+e56 : askBroadcastToRank (nums (0 ∷ 3 ∷ 3 ∷ 1 ∷ 1 ∷ 1 ∷ 0 ∷ 0 ∷ 0 ∷ [])) (pos 1) 1802 10812 ≡ given (nums (0 ∷ 1 ∷ 1 ∷ 1 ∷ 0 ∷ 0 ∷ 0 ∷ []))
 unfolding askBroadcastToRank
 e56 = refl
 
--- broadcastToRankCall: refused 1
-e57 : askBroadcastToRank [] (pos 5) 0 0 ≡ refused 1
+e57 : askBroadcastToRank (nums (0 ∷ 4 ∷ 4 ∷ 1 ∷ 1 ∷ 1 ∷ 1 ∷ 0 ∷ 0 ∷ 0 ∷ [])) (pos 0) 1803 10812 ≡ given (nums (0 ∷ 0 ∷ 0 ∷ 0 ∷ 0 ∷ 0 ∷ []))
 unfolding askBroadcastToRank
 e57 = refl
 
-e58 : askBroadcastToRank [] (pos 5) 1802 10812 ≡ refused 1
+e58 : askBroadcastToRank (nums (2 ∷ 4 ∷ 4 ∷ 1 ∷ 1 ∷ 1 ∷ 1 ∷ 1 ∷ 0 ∷ 0 ∷ [])) (pos 0) 1802 10812 ≡ given (nums (2 ∷ 0 ∷ 0 ∷ 1 ∷ 0 ∷ 0 ∷ []))
 unfolding askBroadcastToRank
 e58 = refl
 
-e59 : askBroadcastToRank (nums (0 ∷ 0 ∷ 5 ∷ [])) (negsuc 0) 0 0 ≡ refused 1
+-- broadcastToRankCall: refused 1
+e59 : askBroadcastToRank [] (pos 5) 0 0 ≡ refused 1
 unfolding askBroadcastToRank
 e59 = refl
 
-e60 : askBroadcastToRank (nums (0 ∷ 0 ∷ 5 ∷ [])) (negsuc 0) 1802 10812 ≡ refused 1
+e60 : askBroadcastToRank [] (pos 5) 1802 10812 ≡ refused 1
 unfolding askBroadcastToRank
 e60 = refl
 
-e61 : askBroadcastToRank (nums (0 ∷ 0 ∷ 0 ∷ 0 ∷ 0 ∷ 0 ∷ [])) (pos 5) 1802 10812 ≡ refused 1
+e61 : askBroadcastToRank (nums (0 ∷ 0 ∷ 5 ∷ [])) (negsuc 0) 0 0 ≡ refused 1
 unfolding askBroadcastToRank
 e61 = refl
 
--- broadcastToRankCall: refused 11
-e62 : askBroadcastToRank (nums (1 ∷ 0 ∷ 1 ∷ 1 ∷ 0 ∷ 0 ∷ 0 ∷ [])) (pos 0) 1802 10812 ≡ refused 11
+e62 : askBroadcastToRank (nums (0 ∷ 0 ∷ 5 ∷ [])) (negsuc 0) 1802 10812 ≡ refused 1
 unfolding askBroadcastToRank
 e62 = refl
 
--- broadcastToRankCall: refused 2
-e63 : askBroadcastToRank [] (negsuc 0) 0 0 ≡ refused 2
+e63 : askBroadcastToRank (nums (0 ∷ 0 ∷ 0 ∷ 0 ∷ 0 ∷ 0 ∷ [])) (pos 5) 1802 10812 ≡ refused 1
 unfolding askBroadcastToRank
 e63 = refl
 
-e64 : askBroadcastToRank [] (pos 3) 0 10812 ≡ refused 2
+-- broadcastToRankCall: refused 11
+e64 : askBroadcastToRank (nums (1 ∷ 0 ∷ 1 ∷ 1 ∷ 0 ∷ 0 ∷ 0 ∷ [])) (pos 0) 1802 10812 ≡ refused 11
 unfolding askBroadcastToRank
 e64 = refl
 
-e65 : askBroadcastToRank (nums (0 ∷ 0 ∷ 0 ∷ 0 ∷ 0 ∷ 0 ∷ [])) (negsuc 0) 0 0 ≡ refused 2
+-- broadcastToRankCall: refused 2
+e65 : askBroadcastToRank [] (negsuc 0) 0 0 ≡ refused 2
 unfolding askBroadcastToRank
 e65 = refl
 
--- broadcastToRankCall: refused 3
-e66 : askBroadcastToRank [] (negsuc 0) 1802 10812 ≡ refused 3
+e66 : askBroadcastToRank [] (pos 3) 0 10812 ≡ refused 2
 unfolding askBroadcastToRank
 e66 = refl
 
-e67 : askBroadcastToRank (nums (0 ∷ [])) (pos 4) 1802 10812 ≡ refused 3
+e67 : askBroadcastToRank (nums (0 ∷ 0 ∷ 0 ∷ 0 ∷ 0 ∷ 0 ∷ [])) (negsuc 0) 0 0 ≡ refused 2
 unfolding askBroadcastToRank
 e67 = refl
 
--- broadcastToRankCall: refused 5
-e68 : askBroadcastToRank (nums (0 ∷ 0 ∷ 0 ∷ 0 ∷ 0 ∷ 0 ∷ [])) (negsuc 0) 1802 10812 ≡ refused 5
+-- broadcastToRankCall: refused 3
+e68 : askBroadcastToRank [] (negsuc 0) 1802 10812 ≡ refused 3
 unfolding askBroadcastToRank
 e68 = refl
 
-e69 : askBroadcastToRank (nums (1 ∷ 0 ∷ 1 ∷ 2 ∷ 0 ∷ 0 ∷ 0 ∷ [])) (negsuc 2147483647) 1802 10812 ≡ refused 5
+e69 : askBroadcastToRank (nums (0 ∷ [])) (pos 4) 1802 10812 ≡ refused 3
 unfolding askBroadcastToRank
 e69 = refl
 
--- broadcastToRankCall: refused 6
-e70 : askBroadcastToRank (nums (2 ∷ 0 ∷ 2 ∷ 1 ∷ 2 ∷ 0 ∷ 0 ∷ 0 ∷ [])) (pos 1) 1802 10812 ≡ refused 6
+-- broadcastToRankCall: refused 5
+e70 : askBroadcastToRank (nums (0 ∷ 0 ∷ 0 ∷ 0 ∷ 0 ∷ 0 ∷ [])) (negsuc 0) 1802 10812 ≡ refused 5
 unfolding askBroadcastToRank
 e70 = refl
+
+e71 : askBroadcastToRank (nums (1 ∷ 0 ∷ 1 ∷ 2 ∷ 0 ∷ 0 ∷ 0 ∷ [])) (negsuc 2147483647) 1802 10812 ≡ refused 5
+unfolding askBroadcastToRank
+e71 = refl
+
+-- broadcastToRankCall: refused 6
+e72 : askBroadcastToRank (nums (2 ∷ 0 ∷ 2 ∷ 1 ∷ 2 ∷ 0 ∷ 0 ∷ 0 ∷ [])) (pos 1) 1802 10812 ≡ refused 6
+unfolding askBroadcastToRank
+e72 = refl
