@@ -415,7 +415,7 @@ def before(entries, index, order):
 
 
 def lookup(l, index, order=0):
-    """The place of the index, or the number of held positions before it, or nothing."""
+    """Where an index stands; if it is not held, how many are before it (Q-3) or nothing."""
     read = as_read(index, l.shape)
     if read is None:
         return NOTHING
@@ -494,7 +494,7 @@ def to_data_layout(l):
 # ---- 6. Stretching
 
 def stretched_axes(old, new):
-    """The axes that are added, and those of extent 1 that change."""
+    """New axes, and old ones whose extent was 1 and is another now."""
     return tuple(i for i in range(len(new)) if i >= len(old) or (old[i] == 1 and new[i] != 1))
 
 
@@ -523,7 +523,7 @@ def stretch_stream(fitted, axes, shape):
 
 
 def every_combination(fitted, axes, shape):
-    """Mode 1 (Q-1): one entry for every combination of values on all stretched axes."""
+    """Mode 1 (Q-1): each entry with all stretched axes running at once."""
     bases = set((tuple(0 if i in axes else c for i, c in enumerate(index)), j) for index, j in fitted)
     if any(shape[a] == 0 for a in axes):
         return
@@ -724,7 +724,7 @@ def stretch_all(layouts, shape, mode=0):
 
 
 def divides_by_other_sparse(last, neighbour):
-    """A division by a sparse layout, whose neighbour is dense or another: 9."""
+    """9: a sparse divisor beside a dense or another layout."""
     return last.kind == SPARSE and (neighbour.kind == DENSE or not eq_nonzeros(last, neighbour))
 
 
@@ -898,7 +898,7 @@ def summary(l):
 
 
 def lookup_by_summary(l, index, words, counts):
-    """What the bit and the counts give, the sum wrapping in 32 bits."""
+    """The answer that bit and counts stand for, right or wrong; sums wrap."""
     if not has_summary(l):
         return Refusal(11)
     read = as_read(index, l.shape)
