@@ -1,49 +1,73 @@
 """Who answers request lines, and how each is asked: the port, the Rust, and a reading of the rules that was made apart from the port.
 
-The folder REFERENCE (by default ../shared/reference beside the repository) has the generator of requests and the reading of
-the rules, the folder DIFFSL_SRC (by default ../shared/docs/src) the sources of the Rust.
+The reading and the generator of requests are in tests/reading; tests/reading/REQUESTS.md says what a request line is. The sources of the
+Rust are not in the repository: the folder DIFFSL_SRC has them, by default ../shared/docs/src beside it.
 """
-import os, shutil, subprocess
+import os, shutil, subprocess, sys
 
 ROOT = os.path.dirname(os.path.dirname(os.path.abspath(__file__)))
-REFERENCE = os.path.abspath(os.environ.get('REFERENCE', os.path.join(ROOT, '..', 'shared', 'reference')))
+READING = os.path.join(ROOT, 'tests', 'reading')
 SOURCES = os.path.abspath(os.environ.get('DIFFSL_SRC', os.path.join(ROOT, '..', 'shared', 'docs', 'src')))
 ORACLE = os.path.join(ROOT, 'oracle')
 
-# the operations of request lines; the port says `unknown` to those that it does not have yet
-OPERATIONS = [n for n in range(1, 32) if n not in (6, 21)]
+# the operations of request lines with the numbers that each can be refused with
+REFUSALS = {
+    1: (1, 5, 6, 13), 2: (1, 5), 3: (1, 5), 4: (1, 5, 6), 5: (5,), 7: (1, 3, 4, 5), 8: (1, 3), 9: (1, 3), 10: (1, 3), 11: (1, 3),
+    12: (1, 2, 3), 13: (1, 2, 5), 14: (2,), 15: (1, 2, 5), 16: (1, 2, 5, 12), 17: (1, 2, 5, 12, 13), 18: (1, 2, 3),
+    19: (1, 2, 3, 5, 6, 11, 12, 13), 20: (1, 2, 3, 5, 6, 11), 22: (1, 2, 3, 6, 11, 12, 13), 23: (1, 2, 3, 4, 6, 11, 12, 13),
+    24: (1, 2, 3, 7), 25: (1, 2, 3, 8, 11, 12), 26: (1, 2, 3, 6, 9, 11, 12, 13), 27: (1, 2, 3, 5, 10, 12, 13),
+    28: (1, 2, 3, 5, 10, 12), 29: (), 30: (), 31: (),
+}
+# the operations that the port has: to be answered, and never with `unknown`
+IN_PORT = (1, 2, 3, 4, 5, 7, 8, 9, 10, 11, 12, 13, 14, 15, 16, 17, 18, 22, 29, 30, 31)
 
 
-def lacks_reference():
-    """What is not at hand of the reference, if anything."""
-    return None if os.path.exists(os.path.join(REFERENCE, 'gen.py')) else 'no reference at hand (set REFERENCE)'
-
-
-def lacks_rust():
-    """What is not at hand of the Rust, if anything."""
+def need_rust():
+    """Ends the test, as a failure, where the Rust is not at hand."""
     if not os.path.exists(os.path.join(SOURCES, 'layout.rs')):
-        return 'no sources of the Rust at hand (set DIFFSL_SRC)'
-    return None if shutil.which('cargo') else 'no cargo at hand'
+        sys.exit('not run: no sources of the Rust in DIFFSL_SRC or ../shared/docs/src')
+    if not shutil.which('cargo'):
+        sys.exit('not run: no cargo at hand')
 
 
 def lines(words, requests=None, cwd=ROOT):
     """The lines that a program writes, for requests if there are any."""
     text = None if requests is None else ''.join(request + '\n' for request in requests)
-    return subprocess.run(words, input=text, capture_output=True, text=True, cwd=cwd, check=True).stdout.splitlines()
+    run = subprocess.run(words, input=text, stdout=subprocess.PIPE, text=True, cwd=cwd)
+    if run.returncode:
+        sys.exit('not run: %s ended with %d' % (' '.join(words), run.returncode))
+    answers = run.stdout.splitlines()
+    if requests is not None and len(answers) != len(requests):
+        sys.exit('failed: %s gave %d answers to %d requests' % (' '.join(words), len(answers), len(requests)))
+    return answers
 
 
 def generated(seed, count, operations=()):
     """So many requests of a seed, of all operations or of those named."""
-    return lines(['python3', 'gen.py', str(seed), str(count)] + [str(op) for op in operations], cwd=REFERENCE)
+    return lines(['python3', 'requests.py', str(seed), str(count)] + [str(op) for op in operations], cwd=READING)
+
+
+def edge_requests(operations=REFUSALS):
+    """The requests at the points where the rules can be misread, of some operations."""
+    with open(os.path.join(READING, 'edge-requests.txt')) as text:
+        return [line for line in text.read().splitlines() if int(line.split()[0]) in operations]
+
+
+def examples():
+    """The requests of the examples that the gate computes, by module."""
+    with open(os.path.join(READING, 'examples.txt')) as text:
+        blocks = [block.strip().split('\n') for block in text.read().split('\n\n')]
+    return {block[0][2:]: block[1:] for block in blocks}
 
 
 def rules(requests):
     """The answers of the reading of the rules."""
-    return lines(['python3', 'model.py'], requests, cwd=REFERENCE)
+    return lines(['python3', 'answers.py'], requests, cwd=READING)
 
 
 def rust(requests):
     """The answers of the Rust, which is built first if need be."""
+    need_rust()
     environment = dict(os.environ, DIFFSL_SRC=SOURCES)
     subprocess.run(['cargo', 'build', '--release', '--quiet'], cwd=ORACLE, env=environment, check=True)
     return lines([os.path.join(ORACLE, 'target', 'release', 'oracle')], requests)
@@ -52,9 +76,3 @@ def rust(requests):
 def port(requests):
     """The answers of the port, which is proved and built first if need be."""
     return lines([os.path.join(ROOT, 'run'), 'answers'], requests)
-
-
-def in_port():
-    """The operations that the port has."""
-    requests = [generated(1, 1, [op])[0] for op in OPERATIONS]
-    return [op for op, answer in zip(OPERATIONS, port(requests)) if answer != 'unknown']

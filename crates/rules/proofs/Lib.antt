@@ -8,8 +8,8 @@
 --     Made, DenseRemoved, Once, Lowering, Listed,
 --     Unions, UnionHolds, Low                                      the union of two sound layouts by plain cases, and what it holds
 --     Determined                                                   two outcomes that a contract allows are equal
---     WorkedByHand                                                 the table
---     Refusing, Never14                                            which numbers are given, and that 14 never is
+--     WorkedByHand, Examples                                       the table, and examples of every operation
+--     Refusing, RefusedWith, Never14                               which numbers are given, and that 14 never is
 pub mod Order
 pub mod Same
 pub mod Sets
@@ -49,3 +49,4 @@ pub mod WorkedByHand
 pub mod Refusing
 pub mod RefusedWith
 pub mod Never14
+mod Examples
