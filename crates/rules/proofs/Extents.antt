@@ -5,7 +5,7 @@ use Prim.Native.Nat.{ℕ, zero, suc, _*_, _≤_, _<_}
 use native.Mathlib.Nat.{zero-mul, mul-comm, mul-pos, mul-le-mul-left, le-mul-of-pos-right, le-trans}
 use native.Mathlib.Omega.{arith}
 use borrow.Author.Tests.{eq-eqb, ne-eqb}
-use lib.ListN.{getD}
+use lib.ListN.{getD, take}
 use Rattle.rules.specs.Limits.{productLimit}
 use Rattle.rules.specs.Lists.{keep, product}
 use Rattle.rules.specs.Layout.{Layout, nonzeroProduct}
@@ -41,6 +41,14 @@ pub product-nonzero : (shape : List ℕ) → product shape ≤ nonzeroProduct sh
 unfolding product keep
 product-nonzero [] = omega arith
 product-nonzero (e ∷ shape) = le-trans (mul-le-mul-left e (product-nonzero shape)) (nonzero-most e shape)
+
+-- the product of the first extents is at most that of all
+pub nonzero-take : (k : ℕ) (shape : List ℕ) → nonzeroProduct (take k shape) ≤ nonzeroProduct shape
+unfolding product keep
+nonzero-take zero shape = nonzero-pos shape
+nonzero-take (suc k) [] = omega arith
+nonzero-take (suc k) (zero ∷ shape) = nonzero-take k shape
+nonzero-take (suc k) (suc e ∷ shape) = rw (nonzero-suc e (take k shape), nonzero-suc e shape) (mul-le-mul-left (suc e) (nonzero-take k shape))
 
 -- an extent is at most the product of those that are not zero, also a missing one that counts 1
 pub extent-nonzero : (shape : List ℕ) (k d : ℕ) → d ≤ 1 → getD shape k d ≤ nonzeroProduct shape
