@@ -5,12 +5,11 @@ use Prim.Native.Nat.{ℕ, zero, suc, _-_, _≤_, _<_}
 use native.Mathlib.Omega.{arith}
 use lib.ListN.{length, getD, take, drop, length-append, length-drop, length-map, List·getD-append, List·getD-eq-default}
 use lib.Seq.{length-take-le, getD-take, getD-drop}
-use Rattle.rules.specs.Limits.{productLimit, componentLimit}
+use Rattle.rules.specs.Limits.{productLimit}
 use Rattle.rules.specs.RowsInOrder.{sorted, Each}
-use Rattle.rules.specs.Soundness.{NumbersBelow}
 use Rattle.rules.specs.Dependencies.{indexOf, onIndex}
 use Rattle.rules.proofs.Order.{ComparedNumbers, under, even, above, compareNumbers}
-use Rattle.rules.proofs.Sorting.{sorted-each, sorted-length}
+use Rattle.rules.proofs.Sorting.{sorted-length}
 use Rattle.rules.proofs.Forming.{DepOfRank}
 
 -- ---- how large the numbers of a list are

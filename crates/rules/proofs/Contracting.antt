@@ -1,5 +1,5 @@
 -- Which answer `contract_last_axis` gives of a sound layout, case by case. Assumes nothing.
-use mathlib.Core.Path.{_≡_, refl, sym, ap, _∙_}
+use mathlib.Core.Path.{_≡_, refl, sym, ap}
 use mathlib.Core.Bool.{Bool, true, false, _&&_, _||_}
 use mathlib.Core.List.{List, [], _∷_, map}
 use Prim.Native.Nat.{ℕ, zero, suc, _-_, _≤_, _<_}
@@ -12,7 +12,7 @@ use lib.Seq.{length-take-le, take-take}
 use Rattle.rules.specs.Limits.{entryLimit}
 use Rattle.rules.specs.Lists.{if, product, allBelow}
 use Rattle.rules.specs.RowsInOrder.{sorted, Each}
-use Rattle.rules.specs.Refusals.{given, refused, _then_, _when_, lowest}
+use Rattle.rules.specs.Refusals.{given, refused, lowest}
 use Rattle.rules.specs.Layout.{Layout, rank, width, isDense, isDiagonal, isSparse}
 use Rattle.rules.specs.Soundness.{NumbersBelow, DepsLow, Sound}
 use Rattle.rules.specs.Dependencies.{onIndex}

@@ -7,7 +7,7 @@ use native.Mathlib.Omega.{arith}
 use borrow.Author.Tests.{leb-false, lt-leb, eqb-false}
 use lib.ListN.{length}
 use Rattle.rules.specs.Lists.{if, same}
-use Rattle.rules.specs.RowsInOrder.{sorted, merge}
+use Rattle.rules.specs.RowsInOrder.{merge}
 use Rattle.rules.specs.Refusals.{given, refused, _then_, _when_, lowest}
 use Rattle.rules.specs.Layout.{Layout, rank, isDense, few, withDeps, made}
 use Rattle.rules.specs.Soundness.{Sound}
