@@ -8,7 +8,7 @@
 --     Made, Forming, Changed                                       a layout that is made: when it is formed, kind by kind
 --     DenseRemoved, Once, Lowering, Listed,
 --     Unions, UnionHolds, Low                                      the union of two sound layouts by plain cases, and what it holds
---     Contracting, Moved, Permuting                                which answer an operation gives of a sound layout, by plain cases
+--     Contracting, Moved, Permuting, Replaced, Ranging             which answer an operation gives of a sound layout, by plain cases
 --     Determined                                                   two outcomes that a contract allows are equal
 --     WorkedByHand                                                 the table
 --     Refusing, Never14                                            which numbers are given, and that 14 never is
@@ -51,6 +51,8 @@ pub mod Low
 pub mod Contracting
 pub mod Moved
 pub mod Permuting
+pub mod Replaced
+pub mod Ranging
 pub mod Determined
 pub mod WorkedByHand
 pub mod Refusing
