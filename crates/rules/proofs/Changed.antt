@@ -7,10 +7,11 @@ use lib.ListN.{length, getD, take, drop, length-append, length-drop, length-map,
 use lib.Seq.{length-take-le, getD-take, getD-drop}
 use Rattle.rules.specs.Limits.{productLimit}
 use Rattle.rules.specs.RowsInOrder.{sorted, Each}
+use Rattle.rules.specs.Soundness.{NumbersBelow}
 use Rattle.rules.specs.Dependencies.{indexOf, onIndex}
 use Rattle.rules.proofs.Order.{ComparedNumbers, under, even, above, compareNumbers}
-use Rattle.rules.proofs.Sorting.{sorted-length}
-use Rattle.rules.proofs.Forming.{DepOfRank}
+use Rattle.rules.proofs.Sorting.{sorted-each, sorted-increasing, sorted-length}
+use Rattle.rules.proofs.Forming.{DepOfRank, DepsOfRank}
 
 -- ---- how large the numbers of a list are
 
@@ -84,6 +85,19 @@ module _ (f : List ℕ → List ℕ) (d : List ℕ) where
 -- what follows of each row changed holds of every row changed
 pub each-map : {P : List ℕ → Type 0} (Q : List ℕ → Type 0) (f : List ℕ → List ℕ) → ((d : List ℕ) → P d → Q (f d)) → {t : List (List ℕ)} → Each P t → Each Q (map f t)
 each-map Q f h {t} p r m = let k = Memᴰ·of-map f t m in subst Q (k .2) (h (k .0) (p (k .0) (k .1)))
+
+-- dependencies changed, sorted and once each are of the new rank, if a changed index is
+pub changed-sorted : (f : List ℕ → List ℕ) {n m : ℕ} → ((i : List ℕ) → length i ≡ n → length (f i) ≡ m) →
+    ((i : List ℕ) → Low productLimit i → Low productLimit (f i)) → {deps : List (List ℕ)} → DepsOfRank n deps → DepsOfRank m (sorted (map (onIndex f) deps))
+changed-sorted f {n} {m} size low {deps} p = record {
+  each = sorted-each (each-map (DepOfRank m) (onIndex f) (λ d q. changed-of-rank f d q size low) (p .each));
+  increase = sorted-increasing (map (onIndex f) deps);
+}
+
+-- their numbers are below b, if those of a changed index are
+pub changed-sorted-low : (f : List ℕ → List ℕ) {b : ℕ} → ((i : List ℕ) → Low b i → Low b (f i)) →
+    {deps : List (List ℕ)} → NumbersBelow b deps → NumbersBelow b (sorted (map (onIndex f) deps))
+changed-sorted-low f {b} low p = sorted-each (each-map (Low b) (onIndex f) (λ d q. changed-low f d q low) p)
 
 -- rows changed and sorted are not more
 pub sorted-map-length : (f : List ℕ → List ℕ) (t : List (List ℕ)) → length (sorted (map f t)) ≤ length t

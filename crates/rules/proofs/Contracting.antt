@@ -11,7 +11,7 @@ use lib.ListN.{length, take}
 use lib.Seq.{length-take-le, take-take}
 use Rattle.rules.specs.Limits.{entryLimit}
 use Rattle.rules.specs.Lists.{if, product, allBelow}
-use Rattle.rules.specs.RowsInOrder.{sorted, Each}
+use Rattle.rules.specs.RowsInOrder.{sorted}
 use Rattle.rules.specs.Refusals.{given, refused, lowest}
 use Rattle.rules.specs.Layout.{Layout, rank, width, isDense, isDiagonal, isSparse}
 use Rattle.rules.specs.Soundness.{NumbersBelow, DepsLow, Sound}
@@ -21,15 +21,15 @@ use Rattle.rules.specs.ContractLastAxis.{shortened, shortenedDeps, overS
 use Rattle.rules.proofs.Order.{ComparedNumbers, under, even, above, compareNumbers}
 use Rattle.rules.proofs.Same.{both-true}
 use Rattle.rules.proofs.Sets.{each-nil}
-use Rattle.rules.proofs.Sorting.{sorted-each, sorted-increasing, sorted-sorted}
+use Rattle.rules.proofs.Sorting.{sorted-each, sorted-sorted}
 use Rattle.rules.proofs.Tests.{true-both}
 use Rattle.rules.proofs.Soundness.{OneKind, is-dense, is-diagonal, is-sparse, one-kind}
 use Rattle.rules.proofs.Extents.{nonzero-take}
 use Rattle.rules.proofs.Alike.{alike-take}
 use Rattle.rules.proofs.Holding.{diagonal-extents}
 use Rattle.rules.proofs.Made.{Formed}
-use Rattle.rules.proofs.Forming.{DepOfRank, Framed, states-of-rank, inputs-of-rank, dense-framed, diagonal-framed, sparse-framed, to-dense-framed, formed-sound, sound-given}
-use Rattle.rules.proofs.Changed.{Low, take-low, changed-low, changed-of-rank, each-map, sorted-map-length}
+use Rattle.rules.proofs.Forming.{DepsOfRank, Framed, states-of-rank, inputs-of-rank, dense-framed, diagonal-framed, sparse-framed, to-dense-framed, formed-sound, sound-given}
+use Rattle.rules.proofs.Changed.{take-low, each-map, changed-sorted, changed-sorted-low, sorted-map-length}
 
 -- ---- numbers without the last
 
@@ -88,12 +88,9 @@ if-full P x p q = go (isSparse x && eqb (length (x .rows)) (product (x .shape)))
 
 module _ {l : Layout} (s : Sound l) (h : 0 < rank l) where
   -- dependencies shortened and merged are of the new rank
-  deps-shortened : {deps : List (List ℕ)} → Each (DepOfRank (rank l)) deps → Each (DepOfRank (length (shortened (l .shape)))) (shortenedDeps deps)
+  deps-shortened : {deps : List (List ℕ)} → DepsOfRank (rank l) deps → DepsOfRank (length (shortened (l .shape))) (shortenedDeps deps)
   unfolding shortenedDeps
-  deps-shortened f =
-      sorted-each
-      (each-map (DepOfRank (length (shortened (l .shape)))) _
-      (λ d p. changed-of-rank shortened d p (λ i. shortened-same i (l .shape)) (λ i. take-low (length i - 1) i)) f)
+  deps-shortened = changed-sorted shortened (λ i. shortened-same i (l .shape)) (λ i. take-low (length i - 1) i)
 
   -- over the shorter shape, whatever D and rows
   shorter-framed : (d : ℕ) (rows : List (List ℕ)) → Framed (overShorter l d rows)
@@ -103,8 +100,6 @@ module _ {l : Layout} (s : Sound l) (h : 0 < rank l) where
     product-most = omega (arith, nonzero-take (rank l - 1) (l .shape), s .sizes .product-most);
     states-are = deps-shortened (states-of-rank s);
     inputs-are = deps-shortened (inputs-of-rank s);
-    states-increase = sorted-increasing _;
-    inputs-increase = sorted-increasing _;
   }
 
   -- it has no more dependencies, and so it is sound if it is formed and has few rows
@@ -191,7 +186,7 @@ contract-given {l} s h = rw (ne-eqb (rank l) 0 (λ e. omega arith)) (sound-given
 -- shortened dependencies have no larger numbers
 shortened-low : {b : ℕ} {deps : List (List ℕ)} → NumbersBelow b deps → NumbersBelow b (shortenedDeps deps)
 unfolding shortenedDeps
-shortened-low {b} f = sorted-each (each-map (Low b) (onIndex shortened) (λ d p. changed-low shortened d p (λ i. take-low (length i - 1) i)) f)
+shortened-low = changed-sorted-low shortened (λ i. take-low (length i - 1) i)
 
 -- they are below 2 ^ 31 if they were
 pub contracted-low : {l : Layout} → DepsLow l → DepsLow (contracted l)

@@ -26,23 +26,32 @@ pub record DepOfRank (n : ℕ) (d : List ℕ) : Type 0 where
   pub size : length d ≡ suc n
   pub small : (k : ℕ) → k < n → getD d k 0 ≤ componentLimit
 
+-- dependencies of rank n, in order
+pub record DepsOfRank (n : ℕ) (deps : List (List ℕ)) : Type 0 where
+  pub each : Each (DepOfRank n) deps
+  pub increase : Increasing deps
+
 -- its shape and its dependencies are as soundness has them, whatever its kind, D and rows
 pub record Framed (l : Layout) : Type 0 where
   pub rank-most : rank l ≤ rankLimit
   pub product-most : nonzeroProduct (l .shape) ≤ productLimit
-  pub states-are : Each (DepOfRank (rank l)) (l .states)
-  pub inputs-are : Each (DepOfRank (rank l)) (l .inputs)
-  pub states-increase : Increasing (l .states)
-  pub inputs-increase : Increasing (l .inputs)
+  pub states-are : DepsOfRank (rank l) (l .states)
+  pub inputs-are : DepsOfRank (rank l) (l .inputs)
 
 module _ {l : Layout} (s : Sound l) where
   -- the state dependencies of a sound layout are of its rank
-  pub states-of-rank : Each (DepOfRank (rank l)) (l .states)
-  states-of-rank d m = record { size = s .form .states-fit .lengths d m; small = s .sizes .states-small d m }
+  pub states-of-rank : DepsOfRank (rank l) (l .states)
+  states-of-rank = record {
+    each = λ d m. record { size = s .form .states-fit .lengths d m; small = s .sizes .states-small d m };
+    increase = s .form .states-fit .increase;
+  }
 
   -- its input dependencies are
-  pub inputs-of-rank : Each (DepOfRank (rank l)) (l .inputs)
-  inputs-of-rank d m = record { size = s .form .inputs-fit .lengths d m; small = s .sizes .inputs-small d m }
+  pub inputs-of-rank : DepsOfRank (rank l) (l .inputs)
+  inputs-of-rank = record {
+    each = λ d m. record { size = s .form .inputs-fit .lengths d m; small = s .sizes .inputs-small d m };
+    increase = s .form .inputs-fit .increase;
+  }
 
   -- a sound layout is framed
   pub sound-framed : Framed l
@@ -51,18 +60,16 @@ module _ {l : Layout} (s : Sound l) where
     product-most = s .sizes .product-most;
     states-are = states-of-rank;
     inputs-are = inputs-of-rank;
-    states-increase = s .form .states-fit .increase;
-    inputs-increase = s .form .inputs-fit .increase;
   }
 
 -- ---- formed, kind by kind
 
 module _ {l : Layout} (f : Framed l) where
   states-framed : DepsFit l (l .states)
-  states-framed = record { lengths = λ d m. f .states-are d m .size; increase = f .states-increase }
+  states-framed = record { lengths = λ d m. f .states-are .each d m .size; increase = f .states-are .increase }
 
   inputs-framed : DepsFit l (l .inputs)
-  inputs-framed = record { lengths = λ d m. f .inputs-are d m .size; increase = f .inputs-increase }
+  inputs-framed = record { lengths = λ d m. f .inputs-are .each d m .size; increase = f .inputs-are .increase }
 
   -- dense: D = R, and no rows
   pub dense-framed : l .kind ≡ 0 → l .dense ≡ rank l → l .rows ≡ [] → Formed l
@@ -83,8 +90,8 @@ module _ {l : Layout} (f : Framed l) where
       inputs-fit = inputs-framed;
     };
     product-most = f .product-most;
-    states-small = λ d m. f .states-are d m .small;
-    inputs-small = λ d m. f .inputs-are d m .small;
+    states-small = λ d m. f .states-are .each d m .small;
+    inputs-small = λ d m. f .inputs-are .each d m .small;
   }
 
   -- diagonal: R - D at least 1, its extents alike, and no rows
@@ -106,8 +113,8 @@ module _ {l : Layout} (f : Framed l) where
       inputs-fit = inputs-framed;
     };
     product-most = f .product-most;
-    states-small = λ d m. f .states-are d m .small;
-    inputs-small = λ d m. f .inputs-are d m .small;
+    states-small = λ d m. f .states-are .each d m .small;
+    inputs-small = λ d m. f .inputs-are .each d m .small;
   }
 
   -- sparse: rows of R - D numbers below the extents, no two equal
@@ -129,23 +136,15 @@ module _ {l : Layout} (f : Framed l) where
       inputs-fit = inputs-framed;
     };
     product-most = f .product-most;
-    states-small = λ d m. f .states-are d m .small;
-    inputs-small = λ d m. f .inputs-are d m .small;
+    states-small = λ d m. f .states-are .each d m .small;
+    inputs-small = λ d m. f .inputs-are .each d m .small;
   }
 
 -- the dense layout of a framed one is formed
 pub to-dense-framed : {l : Layout} → Framed l → Formed (toDense l)
 unfolding toDense
 to-dense-framed f =
-    dense-framed
-    (record {
-      rank-most = f .rank-most;
-      product-most = f .product-most;
-      states-are = f .states-are;
-      inputs-are = f .inputs-are;
-      states-increase = f .states-increase;
-      inputs-increase = f .inputs-increase;
-    }) refl refl refl
+    dense-framed (record { rank-most = f .rank-most; product-most = f .product-most; states-are = f .states-are; inputs-are = f .inputs-are }) refl refl refl
 
 -- ---- the verdict
 

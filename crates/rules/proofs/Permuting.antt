@@ -13,7 +13,7 @@ use Rattle.rules.specs.Lists.{if, implies, all, none, largest, allBelow}
 use Rattle.rules.specs.RowsInOrder.{sorted, Each}
 use Rattle.rules.specs.Refusals.{given, refused, lowest}
 use Rattle.rules.specs.Layout.{Layout, rank, width, isDiagonal, isSparse, alike, diagonalFits}
-use Rattle.rules.specs.Soundness.{NumbersBelow, DepsLow, Sound}
+use Rattle.rules.specs.Soundness.{DepsLow, Sound}
 use Rattle.rules.specs.Record.{natural, naturals}
 use Rattle.rules.specs.Arguments.{upTo}
 use Rattle.rules.specs.Dependencies.{onIndex}
@@ -21,12 +21,11 @@ use Rattle.rules.specs.CountsAndForms.{minRank}
 use Rattle.rules.specs.Permute.{repeats, isPermutation, moved, permuted, permute}
 use Rattle.rules.proofs.Same.{both-true, true-not-false}
 use Rattle.rules.proofs.Tests.{conjunct, implied}
-use Rattle.rules.proofs.Sorting.{sorted-each, sorted-increasing}
 use Rattle.rules.proofs.Soundness.{OneKind, is-dense, is-diagonal, is-sparse, one-kind, dense-rows, diagonal-rows}
 use Rattle.rules.proofs.Once.{Once, once-distinct, distinct-once, map-once}
 use Rattle.rules.proofs.Made.{Formed}
-use Rattle.rules.proofs.Forming.{DepOfRank, Framed, states-of-rank, inputs-of-rank, dense-framed, diagonal-framed, sparse-framed, formed-sound, sound-given, bad-diagonal-made}
-use Rattle.rules.proofs.Changed.{Low, changed-low, changed-of-rank, each-map, sorted-map-length}
+use Rattle.rules.proofs.Forming.{DepsOfRank, Framed, states-of-rank, inputs-of-rank, dense-framed, diagonal-framed, sparse-framed, formed-sound, sound-given, bad-diagonal-made}
+use Rattle.rules.proofs.Changed.{each-map, changed-sorted, changed-sorted-low, sorted-map-length}
 use Rattle.rules.proofs.Moved.{moved-length, moved-low, moved-below, moved-product, moved-apart}
 
 -- ---- entries that can be used
@@ -86,11 +85,8 @@ stays-fits l entries k = rw (k, moved-length) (ap (λ (t : Bool). t && alike (ta
 
 module _ {l : Layout} (s : Sound l) {entries : List ℕ} (u : Usable l entries) where
   -- dependencies moved and merged are of the new rank
-  deps-moved : {deps : List (List ℕ)} → Each (DepOfRank (rank l)) deps → Each (DepOfRank (length (moved 1 entries (l .shape)))) (sorted (map (onIndex (moved 0 entries)) deps))
-  deps-moved f =
-      sorted-each
-      (each-map (DepOfRank (length (moved 1 entries (l .shape)))) (onIndex (moved 0 entries))
-      (λ d p. changed-of-rank (moved 0 entries) d p (λ i e. moved-length 0 entries i ∙ sym (moved-length 1 entries (l .shape))) (λ i. moved-low entries i)) f)
+  deps-moved : {deps : List (List ℕ)} → DepsOfRank (rank l) deps → DepsOfRank (length (moved 1 entries (l .shape))) (sorted (map (onIndex (moved 0 entries)) deps))
+  deps-moved = changed-sorted (moved 0 entries) (λ i e. moved-length 0 entries i ∙ sym (moved-length 1 entries (l .shape))) (moved-low entries)
 
   -- the moved shape with the moved dependencies
   moved-framed : Framed (permuted l entries)
@@ -100,8 +96,6 @@ module _ {l : Layout} (s : Sound l) {entries : List ℕ} (u : Usable l entries) 
     product-most = omega (arith, moved-product entries (l .shape), s .sizes .product-most);
     states-are = deps-moved (states-of-rank s);
     inputs-are = deps-moved (inputs-of-rank s);
-    states-increase = sorted-increasing (map (onIndex (moved 0 entries)) (l .states));
-    inputs-increase = sorted-increasing (map (onIndex (moved 0 entries)) (l .inputs));
   }
 
   -- rows without dense axes stay apart
@@ -179,11 +173,10 @@ module _ (l : Layout) (entries : List ℤ) where
 
 -- ---- the numbers of its dependencies
 
--- moved dependencies have no larger numbers
-moved-deps-low : {b : ℕ} (entries : List ℕ) {deps : List (List ℕ)} → NumbersBelow b deps → NumbersBelow b (sorted (map (onIndex (moved 0 entries)) deps))
-moved-deps-low {b} entries f = sorted-each (each-map (Low b) (onIndex (moved 0 entries)) (λ d p. changed-low (moved 0 entries) d p (moved-low entries)) f)
-
 -- they are below 2 ^ 31 if they were
 pub permuted-low : {l : Layout} → DepsLow l → (entries : List ℕ) → DepsLow (permuted l entries)
 unfolding permuted
-permuted-low p entries = record { states-low = moved-deps-low entries (p .states-low); inputs-low = moved-deps-low entries (p .inputs-low) }
+permuted-low p entries = record {
+  states-low = changed-sorted-low (moved 0 entries) (moved-low entries) (p .states-low);
+  inputs-low = changed-sorted-low (moved 0 entries) (moved-low entries) (p .inputs-low);
+}

@@ -109,10 +109,10 @@ module _ (target source : Layout) (start end : ℕ) where
         (omega (arith, cut-length target source start end (source .inputs), t .sizes .inputs-few))
       where
         states : Each (DepOfRank (rank target)) cutStates
-        states = deps-cut target source start end (cut-ranks e) (states-of-rank t)
+        states = deps-cut target source start end (cut-ranks e) (states-of-rank t .each)
 
         inputs : Each (DepOfRank (rank target)) cutInputs
-        inputs = deps-cut target source start end (cut-ranks e) (inputs-of-rank t)
+        inputs = deps-cut target source start end (cut-ranks e) (inputs-of-rank t .each)
 
         order : (increasing cutStates ≡ true) × (increasing cutInputs ≡ true)
         order = both-true (increasing cutStates) (increasing cutInputs) f
