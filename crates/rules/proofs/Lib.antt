@@ -8,7 +8,8 @@
 --     Made, Forming, Changed                                       a layout that is made: when it is formed, kind by kind
 --     DenseRemoved, Once, Lowering, Listed,
 --     Unions, UnionHolds, Low                                      the union of two sound layouts by plain cases, and what it holds
---     Contracting, Moved, Permuting, Replaced, Ranging             which answer an operation gives of a sound layout, by plain cases
+--     Contracting, Moved, Permuting, Replaced, Ranging,
+--     Gathering, Taking, Axes, Stretching, StretchedAlone          which answer an operation gives of a sound layout, by plain cases
 --     Determined                                                   two outcomes that a contract allows are equal
 --     WorkedByHand                                                 the table
 --     Refusing, Never14                                            which numbers are given, and that 14 never is
@@ -53,6 +54,11 @@ pub mod Moved
 pub mod Permuting
 pub mod Replaced
 pub mod Ranging
+pub mod Gathering
+pub mod Taking
+pub mod Axes
+pub mod Stretching
+pub mod StretchedAlone
 pub mod Determined
 pub mod WorkedByHand
 pub mod Refusing
