@@ -12,7 +12,7 @@
 --     Gathering, Taking, Axes, Stretching, StretchedAlone          which answer an operation gives of a sound layout, by plain cases
 --     Determined                                                   two outcomes that a contract allows are equal
 --     WorkedByHand                                                 the table
---     Refusing, Never14                                            which numbers are given, and that 14 never is
+--     Refusing, RefusedWith, Never14                               which numbers are given, and that 14 never is
 pub mod Order
 pub mod Same
 pub mod Sets
