@@ -1,19 +1,19 @@
 -- Numbers that are all equal, and the positions of a diagonal. Assumes nothing.
 use mathlib.Core.Path.{_≡_, refl, sym, ap}
 use mathlib.Core.Bool.{true}
-use mathlib.Core.List.{List, [], _∷_}
+use mathlib.Core.List.{List, [], _∷_, List·Memᴰ, Memᴰ·append-left}
 use Prim.Native.Nat.{ℕ, zero, suc, _<_, _≤_}
 use native.Mathlib.Omega.{arith}
 use borrow.Author.Tests.{eqb-true, eq-eqb, lt-ltb}
 use lib.Dec.{eqb}
-use lib.ListN.{length, getD, replicate}
+use lib.ListN.{length, getD, take, drop, replicate, take-append-drop}
 use Rattle.rules.specs.declared.Ordering.the-variants.{Less}
 use Rattle.rules.specs.Lists.{all, allBelow}
 use Rattle.rules.specs.RowsInOrder.{cmpRows}
 use Rattle.rules.specs.Layout.{alike}
 use Rattle.rules.proofs.Order.{cons-less}
 use Rattle.rules.proofs.Same.{both-true}
-use Rattle.rules.proofs.Tests.{true-both, all-at}
+use Rattle.rules.proofs.Tests.{true-both, all-each, each-all, all-at}
 
 -- numbers that all test as v are v, over and over
 pub all-replicate : (v : ℕ) (l : List ℕ) → all (eqb v) l ≡ true → l ≡ replicate (length l) v
@@ -46,6 +46,16 @@ alike-all (x ∷ l) e = true-both (eq-eqb x x refl) e
 -- numbers that are alike are each the first one
 pub alike-at : (l : List ℕ) → alike l ≡ true → (k : ℕ) → k < length l → getD l k 0 ≡ getD l 0 0
 alike-at l e k h = sym (eqb-true (getD l 0 0) (getD l k 0) (all-at (eqb (getD l 0 0)) l 0 (alike-all l e) k h))
+
+-- the first ones of numbers that are alike are
+pub alike-take : (k : ℕ) (l : List ℕ) → alike l ≡ true → alike (take k l) ≡ true
+unfolding alike all
+alike-take zero l e = refl
+alike-take (suc k) [] e = refl
+alike-take (suc k) (x ∷ l) e = each-all (eqb x) (take k l) (λ y m. all-each (eqb x) e y (take-in k l m))
+  where
+    take-in : (k : ℕ) (l : List ℕ) {y : ℕ} → List·Memᴰ y (take k l) → List·Memᴰ y l
+    take-in k l {y} m = rw take-append-drop at (Memᴰ·append-left (drop k l) m)
 
 -- one number, over and over, is alike
 pub replicate-alike : (n v : ℕ) → alike (replicate n v) ≡ true
