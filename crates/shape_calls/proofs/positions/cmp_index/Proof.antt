@@ -1,5 +1,6 @@
 -- `cmp_index`: by the first reason that holds.
 use borrow.Author.Needs.{needs}
+use denote.Ref.{now}
 use Rattle.rules.specs.Positions.{cmpIndexCall}
 use Rattle.rules.specs.Refusals.{numberOf}
 use Rattle.judging.proofs.Judged.{judged}
@@ -15,12 +16,14 @@ unfolding cmpIndexCall numberOf
 returns c = search judged
 
 cmp-rows-requires : tie.Need-cmp-rows-requires
-cmp-rows-requires c κs = search index-rows
+cmp-rows-requires c κs = index-rows _ _ (c .before .comparable .ensures) (c .if1 .left)
 
 returns-2 : tie.Need-returns-2
 unfolding cmpIndexCall numberOf
 returns-2 c =
-    let order = index-order _ _ (c .before .before .comparable .ensures) (c .before .if1 .left) (c .cmp-rows .ensures) in
+    let told = c .before .before in
+    let start = told .before in
+    let order = index-order (now (start .args .a)) (now (start .args .b)) (told .comparable .ensures) (c .before .if1 .left) (c .cmp-rows .ensures) in
     search judged
 
 pub cmp-index-spec : {M : Type 1} → statement M
