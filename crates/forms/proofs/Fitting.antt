@@ -34,9 +34,8 @@ use Rattle.tables.specs.Rows.{rowAt, rowsAt, HasRows}
 use Rattle.tables.proofs.Different.{twice-length}
 use Rattle.records.proofs.Naturals.{has-rows, entries-rows}
 use Rattle.shapes.specs.Judged.{Judged}
-use Rattle.shapes.proofs.Judging.{shape-row}
+use Rattle.shapes.proofs.Judging.{shape-row, shape-within}
 use Rattle.shapes.proofs.Reading.{length-naturals}
-use Rattle.lookups.proofs.SoundRecords.{shape-within}
 use Rattle.forms.specs.Pieces.{pieces, PiecesFit, noDeps, sparseOf}
 use Rattle.forms.specs.Windows.{RowsInside}
 use Rattle.forms.proofs.Packed.{flat}

@@ -14,11 +14,10 @@ use Rattle.rules.specs.Buffers.{part}
 use Rattle.rules.specs.RowsInOrder.{Each}
 use Rattle.rules.specs.Record.{naturals, rowsOf, shapeIn}
 use Rattle.rules.proofs.Sets.{each-nil, each-cons}
-use Rattle.rules.proofs.RowsRead.{naturals-take, naturals-drop, pos-naturals}
-use Rattle.cells.specs.View.{view}
-use Rattle.cells.proofs.View.{view-pos}
+use Rattle.rules.proofs.RowsRead.{naturals-take, naturals-drop}
 use Rattle.tables.specs.Rows.{rowsAt}
 use Rattle.tables.proofs.Rows.{lent-row}
+use Rattle.shapes.proofs.Reading.{view-natural}
 
 -- ---- rows of a list
 
@@ -43,7 +42,7 @@ lent-naturals a w l = ap naturals (lent-row a w l) ∙ sym (ap (take w) (natural
 -- without a negative number they are what they are as naturals
 pub rows-natural : (w n : ℕ) (s : List ℤ) → all nonNeg s ≡ true → rowsAt 0 w n s ≡ rowsOf w n (naturals s)
 unfolding rowsAt
-rows-natural w n s e = ap (rowsOf w n) (sym (ap view (pos-naturals s e)) ∙ view-pos (naturals s))
+rows-natural w n s e = ap (rowsOf w n) (view-natural s e)
 
 -- a row is inside a shape
 abbrev pub below : List ℤ → List ℕ → Bool

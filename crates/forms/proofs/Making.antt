@@ -36,8 +36,7 @@ use Rattle.cells.proofs.View.{view-part, view-pos}
 use Rattle.tables.proofs.Rows.{lent-row}
 use Rattle.records.proofs.Sections.{section-laid}
 use Rattle.shapes.specs.Judged.{Judged}
-use Rattle.shapes.proofs.Judging.{rank-counted, rank-small}
-use Rattle.lookups.proofs.SoundRecords.{shape-within}
+use Rattle.shapes.proofs.Judging.{rank-counted, rank-small, shape-within}
 use Rattle.forms.specs.Pieces.{pieces, PiecesFit, noDeps, diagonalOf}
 use Rattle.forms.proofs.Pieces.{encode-pieces, ends-same}
 

@@ -32,7 +32,7 @@ use Rattle.tables.proofs.Different.{different-length, twice-length}
 use Rattle.tables.proofs.Rows.{lent-row, row-ends}
 use Rattle.shapes.specs.Judged.{Judged}
 use Rattle.shapes.proofs.Reading.{length-naturals}
-use Rattle.lookups.proofs.SoundRecords.{shape-within}
+use Rattle.shapes.proofs.Judging.{shape-within}
 use Rattle.forms.specs.Windows.{RowInside, RowsInside, rowNumbers, Twice, DifferIn}
 use Rattle.forms.proofs.Listing.{below, rows-wide, rows-natural, lent-naturals}
 use Rattle.forms.proofs.Marking.{Apart, apart-start, apart-turn}

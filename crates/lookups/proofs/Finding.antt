@@ -36,7 +36,7 @@ use Rattle.records.proofs.Layouts.{axes, has-rows-there}
 use Rattle.records.proofs.Naturals.{low-front}
 use Rattle.records.proofs.SoundRecords.{lies, layout-shown}
 use Rattle.shapes.proofs.Judging.{rank-counted}
-use Rattle.shapes.proofs.Reading.{length-naturals, natural-getD}
+use Rattle.shapes.proofs.Reading.{components-small, length-naturals, natural-getD}
 use Rattle.lookups.specs.Indices.{IndexRead}
 use Rattle.lookups.proofs.SoundRecords.{shape-shown, shape-judged, lent-shape, record-shape, record-extents}
 use Rattle.lookups.proofs.Counting.{kind-read, kind-sparse}
@@ -64,13 +64,6 @@ read-good (z ∷ index) [] e = naturals-good (z ∷ index) e
 read-good (z ∷ index) (x ∷ shape) e =
     let h = both-true (upTo componentLimit z) (goodComponents index) e in
     true-both (component-good z (eqb x 1) (h .0)) (read-good index shape (h .1))
-
--- components are small
-good-low : (l : List ℕ) → goodComponents (map pos l) ≡ true → (k : ℕ) → getD l k 0 < 2 ^ 31
-unfolding goodComponents all upTo
-good-low [] e k = omega arith
-good-low (x ∷ l) e zero = let h = leb-true x componentLimit (both-true (leb x componentLimit) (goodComponents (map pos l)) e .0) in omega arith
-good-low (x ∷ l) e (suc k) = good-low l (both-true (leb x componentLimit) (goodComponents (map pos l)) e .1) k
 
 -- ---- the index that is read: `find`
 
@@ -193,7 +186,7 @@ module _ {h : Head} {s index read : List ℤ} (r : SoundRecord h s) (i : IndexRe
       let rank : length (layoutIn s .shape) ≡ h .rank = rw (layout-shown r) (length-part 3 (h .rank) (view s) (rw view-length (omega arith))) in
       record {
         room = omega (arith, read-axes);
-        low = rw (i .is, view-pos numbers) (low-front (h .width) numbers (λ k l. good-low numbers (rw (i .is) at components) k));
+        low = rw (i .is, view-pos numbers) (low-front (h .width) numbers (λ k l. omega (arith, rw (i .is, view-pos) at (components-small read components k))));
       }
 
 -- the rows that it is looked for among

@@ -11,14 +11,11 @@ use lib.ListN.{length, getD, take, drop, length-drop}
 use lib.Seq.{getD-drop, drop-drop}
 use lib.Signed.{nonNeg}
 use Rattle.rules.specs.declared.Head.{Head}
-use Rattle.rules.specs.declared.Section.{Section}
-use Rattle.rules.specs.declared.Section.the-variants.{Whole, Cut}
 use Rattle.rules.specs.Lists.{all}
 use Rattle.rules.specs.Buffers.{part}
 use Rattle.rules.specs.Layout.{Layout, withinProduct}
-use Rattle.rules.specs.Record.{natural, entriesFrom, sectionAt, layoutBy, layoutIn, shapeIn, goodExtents, goodShape}
+use Rattle.rules.specs.Record.{natural, entriesFrom, sectionAt, layoutBy, layoutIn, shapeIn, goodShape}
 use Rattle.rules.proofs.RowsRead.{all-part}
-use Rattle.rules.proofs.Same.{both-true, true-not-false}
 use Rattle.tables.specs.Rows.{rowAt}
 use Rattle.axes.specs.Extents.{Extents}
 use Rattle.records.specs.Sound.{SoundRecord}
@@ -78,14 +75,5 @@ module _ {h : Head} {s : List ℤ} (r : SoundRecord h s) where
   pub record-extents : Extents 3 (h .rank) s
   unfolding withinProduct
   record-extents = let b = lies r in record { room = omega arith; within = rw record-shape (le-leb _ _ (layout-sound r .sizes .product-most)) }
-
--- a good shape's extents are within the limit
-pub shape-within : (s : List ℤ) → goodShape s ≡ true → withinProduct (shapeIn s) ≡ true
-unfolding goodShape
-shape-within s e = by (sectionAt 0 1 s) e
-  where
-    by : (g : Section) → goodExtents g s ≡ true → withinProduct (shapeIn s) ≡ true
-    by (Whole x) q = both-true (all nonNeg (part 1 (x .count) s)) (withinProduct (shapeIn s)) q .1
-    by Cut q = absurd (true-not-false q refl)
 
 pub ruleset lent = (lent-judged, lent-inside, record-extents)

@@ -22,10 +22,9 @@ use Rattle.rules.specs.Buffers.{part}
 use Rattle.rules.specs.Layout.{withinProduct, nonzeroProduct}
 use Rattle.rules.specs.Record.{natural, naturals, entriesFrom, sectionAt, goodExtents, goodShape, shapeIn, behindShape}
 use Rattle.rules.proofs.Extents.{extent-nonzero}
-use Rattle.rules.proofs.RowsRead.{pos-naturals}
 use Rattle.rules.proofs.Same.{both-true, true-not-false}
 use Rattle.cells.specs.View.{view, Low}
-use Rattle.cells.proofs.View.{view-part, view-pos}
+use Rattle.cells.proofs.View.{view-part}
 use Rattle.tables.specs.Rows.{rowAt}
 use Rattle.axes.specs.Extents.{Extents}
 use Rattle.records.specs.Sections.{Laid, SectionIn}
@@ -35,7 +34,7 @@ use Rattle.records.proofs.InTurn.{first-fails, first-holds}
 use Rattle.records.proofs.Naturals.{naturals-part}
 use Rattle.records.proofs.Sections.{other-default}
 use Rattle.shapes.specs.Judged.{Judged}
-use Rattle.shapes.proofs.Reading.{length-naturals}
+use Rattle.shapes.proofs.Reading.{view-natural, length-naturals}
 
 -- the count of extents as it stands there
 abbrev counted : List ℤ → ℕ
@@ -62,10 +61,14 @@ good (pos n ∷ l) e = by (leb (1 + n * 1) (suc (length l))) refl e
         record { room = rw mul-one at room; natural = both .0; within = both .1 }
     by false h f = absurd (true-not-false f refl)
 
--- each of its extents is within the limit
+-- the product of its extents is within the limit
+pub shape-within : (s : List ℤ) → goodShape s ≡ true → withinProduct (shapeIn s) ≡ true
+shape-within s e = good s e .within
+
+-- each of them is
 pub extent-small : (s : List ℤ) → goodShape s ≡ true → (a : ℕ) → getD (shapeIn s) a 1 ≤ 65536
 unfolding withinProduct
-extent-small s e a = le-trans (extent-nonzero (shapeIn s) a 1 (omega arith)) (leb-true (nonzeroProduct (shapeIn s)) productLimit (good s e .within))
+extent-small s e a = le-trans (extent-nonzero (shapeIn s) a 1 (omega arith)) (leb-true (nonzeroProduct (shapeIn s)) productLimit (shape-within s e))
 
 module _ (s : List ℤ) (j : Judged s) where
   pub rank-counted : length (shapeIn s) ≡ counted s
@@ -85,7 +88,7 @@ module _ (s : List ℤ) (j : Judged s) where
   unfolding shapeIn
   shape-row e =
       let l : List ℤ = part 1 (counted s) s in
-      rw (e, rank-counted, ← view-part 1 (counted s) s) (ap view (sym (pos-naturals l (good s (j .good) .natural))) ∙ view-pos (naturals l))
+      rw (e, rank-counted, ← view-part 1 (counted s) s) (view-natural l (good s (j .good) .natural))
 
   pub shape-extents : {r : ℕ} → r ≡ length (shapeIn s) → Extents 1 r s
   shape-extents e = let g = good s (j .good) in record { room = omega (arith, rank-counted); within = rw (shape-row e) (g .within) }

@@ -1,44 +1,36 @@
 -- Indices and their numbers in row-major order. Assumes nothing.
-use mathlib.Core.Path.{_≡_, refl, sym, _∙_}
+use mathlib.Core.Path.{_≡_, sym, _∙_}
 use mathlib.Core.Bool.{true, false}
 use mathlib.Core.List.{List, [], _∷_, map}
-use Prim.Native.Nat.{ℕ, zero, suc, _+_, _*_, _^_, _<_, _≤_}
+use Prim.Native.Nat.{ℕ, suc, _+_, _*_, _^_, _<_, _≤_}
 use native.Mathlib.Nat.{zero-mul, zero-add, add-zero, add-mul, add-assoc, mul-one, mul-assoc, pow-suc, suc-mul, mul-le-mul-left, mul-le-mul-right, pow-le-pow-right, lt-of-lt-of-le}
 use native.Mathlib.Numerals.{add-one}
 use native.Mathlib.Omega.{arith}
-use borrow.Author.Tests.{leb-true, eqb-true}
-use lib.Dec.{eqb, leb, lit<}
-use lib.IntN.{ℤ, pos, negsuc}
+use borrow.Author.Tests.{eqb-true}
+use lib.Dec.{eqb, lit<}
+use lib.IntN.{ℤ, pos}
 use lib.ListN.{length, getD, drop, length-map, drop-of-length-le}
 use lib.Seq.{drop-cons}
 use mir.Syntax.{w64}
 use mir.Val.{Fits}
-use Rattle.rules.specs.Limits.{rankLimit, componentLimit}
-use Rattle.rules.specs.Lists.{all, any, product, fitTo}
+use Rattle.rules.specs.Limits.{rankLimit}
+use Rattle.rules.specs.Lists.{any, product, fitTo}
 use Rattle.rules.specs.Buffers.{put, zeros}
 use Rattle.rules.specs.Record.{natural, naturals, shapeIn}
-use Rattle.rules.specs.Arguments.{upTo, goodComponents, goodIndex}
+use Rattle.rules.specs.Arguments.{goodComponents, goodIndex}
 use Rattle.rules.specs.Positions.{ravelIndex, unravel}
-use Rattle.rules.proofs.Same.{both-true, true-not-false}
+use Rattle.rules.proofs.Same.{both-true}
 use Rattle.cells.specs.View.{view}
 use Rattle.cells.proofs.View.{view-put, view-pos, view-zeros}
 use Rattle.tables.specs.Rows.{rowAt}
 use Rattle.axes.specs.Extents.{IndexAsked}
 use Rattle.axes.proofs.Indices.{unravel-length}
 use Rattle.shapes.specs.Judged.{Judged}
-use Rattle.shapes.proofs.Reading.{natural-getD, inside-naturals, past-naturals}
+use Rattle.shapes.proofs.Reading.{component-small, natural-getD, inside-naturals, past-naturals}
 use Rattle.shapes.proofs.Judging.{rank-counted, rank-small, shape-row, shape-extents}
 use Rattle.shapes.proofs.Fitting.{four-numbers, fit-length, fit-over}
 
 -- ---- the number of an index
-
--- components are small
-component-low : (s : List ℤ) (k : ℕ) → goodComponents s ≡ true → natural (getD s k (pos 0)) ≤ 65535
-unfolding goodComponents all upTo natural
-component-low [] k e = omega arith
-component-low (pos n ∷ s) zero e = leb-true n componentLimit (both-true (leb n componentLimit) (all (upTo componentLimit) s) e .0)
-component-low (pos n ∷ s) (suc k) e = component-low s k (both-true (leb n componentLimit) (all (upTo componentLimit) s) e .1)
-component-low (negsuc n ∷ s) k e = absurd (true-not-false e refl)
 
 -- the number of the first k components, with what the other ones add
 pub record Raveled (index shape : List ℤ) (k number : ℕ) : Type 0 where
@@ -85,7 +77,7 @@ module _ (index shape : List ℤ) {k number e : ℕ} (p : Raveled index shape k 
 
   module _ {c : ℕ} (ec : c ≡ natural (getD index k (pos 0))) where
     component : c ≤ 65535
-    component = rw ec (component-low index k (p .good))
+    component = rw ec (component-small index k (p .good))
 
     pub ravel-add-fits : Fits w64 (number * e + c)
     ravel-add-fits = fits (grown c component)

@@ -19,11 +19,12 @@ use Rattle.rules.specs.Buffers.{part}
 use Rattle.rules.specs.RowsInOrder.{cmpRows}
 use Rattle.rules.specs.Record.{natural, naturals, listCount}
 use Rattle.rules.specs.Arguments.{upTo, overCount, goodComponents, goodIndex}
+use Rattle.rules.proofs.RowsRead.{pos-naturals}
 use Rattle.rules.proofs.Same.{both-true, true-not-false}
 use Rattle.cells.specs.declared.Sign.{Sign}
 use Rattle.cells.specs.declared.Sign.the-variants.{Natural, Negative}
 use Rattle.cells.specs.View.{view, Low, signOf}
-use Rattle.cells.proofs.View.{view-length}
+use Rattle.cells.proofs.View.{view-length, view-pos}
 use Rattle.tables.specs.Rows.{rowAt, HasRow}
 use Rattle.records.proofs.Naturals.{naturals-view}
 use Rattle.records.proofs.Numbers.{natural-passes, negative-fails}
@@ -117,6 +118,31 @@ sign-natural z e f = natural-passes z (sym e ∙ f)
 pub sign-negative : {g : Sign} (z : ℤ) → g ≡ signOf z → g ≡ Negative → nonNeg z ≡ false
 sign-negative z e f = negative-fails z (sym e ∙ f)
 
+-- ---- a list of numbers read as natural ones
+
+-- the same as its view where none is negative
+pub view-natural : (s : List ℤ) → all nonNeg s ≡ true → view s ≡ naturals s
+view-natural s e = ap view (sym (pos-naturals s e)) ∙ view-pos (naturals s)
+
+pub length-naturals : (s : List ℤ) → length (naturals s) ≡ length s
+length-naturals s = length-map s natural
+
+pub natural-getD : (s : List ℤ) (i : ℕ) → getD (naturals s) i 0 ≡ natural (getD s i (pos 0))
+unfolding natural
+natural-getD s i = List·getD-map natural s i (pos 0)
+
+module _ (s : List ℤ) (k : ℕ) where
+  pub inside-naturals : k < length s → k < length (naturals s)
+  inside-naturals h = rw (length-naturals s) h
+
+  pub past-naturals : length s ≤ k → length (naturals s) ≤ k
+  past-naturals h = rw (length-naturals s) h
+
+  pub natural-there : {n : ℕ} → n ≡ natural (getD s k (pos 0)) → n ≡ getD (naturals s) k 0
+  natural-there e = e ∙ sym (natural-getD s k)
+
+pub ruleset in-naturals = (inside-naturals, past-naturals, natural-there)
+
 -- ---- judged indices
 
 module _ (s : List ℤ) (n : ℕ) where
@@ -143,13 +169,19 @@ module _ (a b : List ℤ) where
 
 pub ruleset indices = (index-length, index-components, pair-lengths, pair-long, pair-first, pair-second, not-true, not-false)
 
--- components are not negative
-components-low : (s : List ℤ) → goodComponents s ≡ true → Low (view s)
+-- components are small
+pub components-small : (s : List ℤ) → goodComponents s ≡ true → (k : ℕ) → getD (view s) k 0 ≤ 65535
 unfolding goodComponents all upTo view
-components-low [] e k = omega arith
-components-low (pos n ∷ s) e zero = omega (arith, leb-true n componentLimit (both-true (leb n componentLimit) (all (upTo componentLimit) s) e .0))
-components-low (pos n ∷ s) e (suc k) = components-low s (both-true (leb n componentLimit) (all (upTo componentLimit) s) e .1) k
-components-low (negsuc n ∷ s) e k = absurd (true-not-false e refl)
+components-small [] e k = omega arith
+components-small (pos n ∷ s) e zero = leb-true n componentLimit (both-true (leb n componentLimit) (all (upTo componentLimit) s) e .0)
+components-small (pos n ∷ s) e (suc k) = components-small s (both-true (leb n componentLimit) (all (upTo componentLimit) s) e .1) k
+components-small (negsuc n ∷ s) e k = absurd (true-not-false e refl)
+
+components-low : (s : List ℤ) → goodComponents s ≡ true → Low (view s)
+components-low s e k = omega (arith, components-small s e k)
+
+pub component-small : (s : List ℤ) (k : ℕ) → goodComponents s ≡ true → natural (getD s k (pos 0)) ≤ 65535
+component-small s k e = rw (← natural-getD s k, naturals-view s (components-low s e)) (components-small s e k)
 
 -- so an index is a row
 module _ (s : List ℤ) (g : goodComponents s ≡ true) where
@@ -184,24 +216,3 @@ module _ (a b : List ℤ) (e : comparableIndices a b ≡ true) where
 
   pub compared-same : cmpRows (rowAt 0 (length a) a) (rowAt 0 (length a) b) ≡ cmpRows (naturals a) (naturals b)
   compared-same = rw (index-seen a good-first) (ap (cmpRows (naturals a)) (rw same-length (index-seen b good-second)))
-
--- ---- a list of numbers read as natural ones
-
-pub length-naturals : (s : List ℤ) → length (naturals s) ≡ length s
-length-naturals s = length-map s natural
-
-pub natural-getD : (s : List ℤ) (i : ℕ) → getD (naturals s) i 0 ≡ natural (getD s i (pos 0))
-unfolding natural
-natural-getD s i = List·getD-map natural s i (pos 0)
-
-module _ (s : List ℤ) (k : ℕ) where
-  pub inside-naturals : k < length s → k < length (naturals s)
-  inside-naturals h = rw (length-naturals s) h
-
-  pub past-naturals : length s ≤ k → length (naturals s) ≤ k
-  past-naturals h = rw (length-naturals s) h
-
-  pub natural-there : {n : ℕ} → n ≡ natural (getD s k (pos 0)) → n ≡ getD (naturals s) k 0
-  natural-there e = e ∙ sym (natural-getD s k)
-
-pub ruleset in-naturals = (inside-naturals, past-naturals, natural-there)
