@@ -27,7 +27,7 @@ use Rattle.rules.proofs.Axes.{stretched-one, unstretched-same, rowAxes,
 -- ---- rows
 
 -- numbers that are each below their extent test so
-at-below : (r shape : List ℕ) → ((k : ℕ) → k < length r → getD r k 0 < getD shape k 0) → allBelow r shape ≡ true
+pub at-below : (r shape : List ℕ) → ((k : ℕ) → k < length r → getD r k 0 < getD shape k 0) → allBelow r shape ≡ true
 unfolding allBelow
 at-below [] shape f = refl
 at-below (c ∷ r) [] f = refl
