@@ -10,7 +10,7 @@
 --     Unions, UnionHolds, Low                                      the union of two sound layouts by plain cases, and what it holds
 --     Contracting, Moved, Permuting, Replaced, Ranging,
 --     Gathering, Taking, Axes, Stretching, StretchedAlone          which answer an operation gives of a sound layout, by plain cases
---     StretchedHolds, Full, ContractedHolds                        what is held then
+--     StretchedHolds, Full, ContractedHolds, PermutedHolds         what is held then
 --     Determined                                                   two outcomes that a contract allows are equal
 --     WorkedByHand                                                 the table
 --     Refusing, RefusedWith, Never14                               which numbers are given, and that 14 never is
@@ -63,6 +63,7 @@ pub mod StretchedAlone
 pub mod StretchedHolds
 pub mod Full
 pub mod ContractedHolds
+pub mod PermutedHolds
 pub mod Determined
 pub mod WorkedByHand
 pub mod Refusing
