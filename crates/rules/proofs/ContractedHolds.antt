@@ -1,14 +1,12 @@
 -- What a contracted layout holds. Assumes nothing.
 use mathlib.Core.Path.{_≡_, refl, sym, ap, _∙_}
-use mathlib.Core.Bool.{Bool, true}
+use mathlib.Core.Bool.{true}
 use mathlib.Core.List.{List, [], _∷_, _++_, map, Memᴰ·map, Memᴰ·of-map}
 use Prim.Native.Nat.{ℕ, suc, _-_, _≤_, _<_}
 use native.Mathlib.Omega.{arith}
 use borrow.Author.Tests.{eq-eqb}
-use lib.Dec.{eqb}
 use lib.ListN.{length, getD, length-append, List·getD-append}
 use lib.Seq.{take-append-seam, take-at, take-all, take-suc, getD-append-seam, getD-take}
-use Rattle.rules.specs.Lists.{all}
 use Rattle.rules.specs.RowsInOrder.{sorted, In, Each}
 use Rattle.rules.specs.Layout.{Layout, rank, alike}
 use Rattle.rules.specs.Soundness.{WellFormed}
@@ -16,16 +14,13 @@ use Rattle.rules.specs.CountsAndForms.{toDense}
 use Rattle.rules.specs.ContractLastAxis.{shortened, overShorter, contracted}
 use Rattle.rules.specs.Holding.{holds}
 use Rattle.rules.proofs.Order.{ComparedNumbers, under, even, above, compareNumbers}
-use Rattle.rules.proofs.Same.{both-true}
 use Rattle.rules.proofs.Sets.{in-same}
 use Rattle.rules.proofs.Sorting.{sorted-has, sorted-only, sorted-sorted, sorted-each}
-use Rattle.rules.proofs.Tests.{true-both}
-use Rattle.rules.proofs.Alike.{alike-take, alike-at}
-use Rattle.rules.proofs.Low.{below-at}
+use Rattle.rules.proofs.Alike.{alike-at, alike-take, alike-more, short-alike}
+use Rattle.rules.proofs.Low.{below-at, at-below}
 use Rattle.rules.proofs.Holding.{Position, true-position, holds-position, holds-dense, sparse-true, true-sparse, Whole, whole-dense, whole-diagonal, whole-sparse, whole-front, held-alike, diagonal-extents}
 use Rattle.rules.proofs.Changed.{each-map}
 use Rattle.rules.proofs.Contracting.{shortened-length, take-below, contracted-dense-axis, contracted-diagonal, contracted-to-dense, contracted-rows}
-use Rattle.rules.proofs.Stretching.{at-below}
 use Rattle.rules.proofs.Full.{dense-if-full-holds}
 
 -- ---- one more component
@@ -65,25 +60,6 @@ module _ (shape index : List ℕ) (v : ℕ) where
           (rw (getD-take (length shape - 1) shape k 0 (omega (arith, size))) at (below-at index (shortened shape) (p .inside) k o (omega (arith, p .size))))
       at k i (even e) = rw (e, getD-append-seam index v [] 0, size) g
       at k i (above o) = absurd (omega arith)
-
--- numbers that pass a test do with one more that passes
-all-more : (test : ℕ → Bool) (l : List ℕ) (x : ℕ) → all test l ≡ true → test x ≡ true → all test (l ++ (x ∷ [])) ≡ true
-unfolding all
-all-more test [] x e f = rw f
-all-more test (y ∷ l) x e f = let h = both-true (test y) (all test l) e in true-both (h .0) (all-more test l x (h .1) f)
-
--- numbers that are alike are with the first once more
-alike-more : (l : List ℕ) → alike l ≡ true → alike (l ++ (getD l 0 0 ∷ [])) ≡ true
-unfolding alike all
-alike-more [] e = refl
-alike-more (x ∷ l) e = all-more (eqb x) l x e (eq-eqb x x refl)
-
--- one number is alike, and so is none
-short-alike : (l : List ℕ) → length l ≤ 1 → alike l ≡ true
-unfolding alike all
-short-alike [] h = refl
-short-alike (x ∷ []) h = refl
-short-alike (x ∷ y ∷ l) h = absurd (omega arith)
 
 -- ---- by kind
 

@@ -22,7 +22,7 @@ use Rattle.rules.proofs.Order.{ComparedNumbers, under, even, above, com
 use Rattle.rules.proofs.Same.{both-true}
 use Rattle.rules.proofs.Sets.{each-nil}
 use Rattle.rules.proofs.Sorting.{sorted-each, sorted-sorted}
-use Rattle.rules.proofs.Tests.{true-both}
+use Rattle.rules.proofs.Tests.{true-both, true-either}
 use Rattle.rules.proofs.Soundness.{OneKind, is-dense, is-diagonal, is-sparse, one-kind}
 use Rattle.rules.proofs.Extents.{nonzero-take}
 use Rattle.rules.proofs.Alike.{alike-take}
@@ -151,11 +151,7 @@ module _ {l : Layout} (s : Sound l) (h : 0 < rank l) where
   contracted-sound = by (compareNumbers 0 (l .dense)) (one-kind (s .form))
     where
       lower : 0 < l .dense → Sound (contracted l)
-      lower g = rw (contracted-dense-axis l (rw (lt-ltb 0 (l .dense) g) (or-true (isDense l)))) (fewer-sound g)
-        where
-          or-true : (t : Bool) → t || true ≡ true
-          or-true true = refl
-          or-true false = refl
+      lower g = rw (contracted-dense-axis l (true-either (isDense l) (ltb 0 (l .dense)) (λ _. lt-ltb 0 (l .dense) g))) (fewer-sound g)
 
       diagonal : l .kind ≡ 1 → l .dense ≡ 0 → ComparedNumbers 2 (rank l) → Sound (contracted l)
       diagonal k z (under g) = rw (contracted-diagonal l k z g) (diagonal-sound k z g)

@@ -9,7 +9,7 @@ use borrow.Author.Tests.{eqb-true, eq-eqb, ne-eqb}
 use lib.Dec.{eqb, leb}
 use lib.ListN.{length, getD, take, replicate, length-map, List·getD-append, List·getD-eq-default}
 use lib.Seq.{take-all, getD-take, ext-getD}
-use Rattle.rules.specs.Lists.{if, implies, all, largest, fitTo}
+use Rattle.rules.specs.Lists.{if, implies, largest, fitTo}
 use Rattle.rules.specs.Layout.{Layout, rank, isDiagonal, alike}
 use Rattle.rules.specs.Soundness.{WellFormed}
 use Rattle.rules.specs.Permute.{movedTo, moved, permuted}
@@ -17,15 +17,14 @@ use Rattle.rules.specs.Holding.{holds}
 use Rattle.rules.proofs.Order.{ComparedNumbers, under, even, above, compareNumbers}
 use Rattle.rules.proofs.Same.{both-true}
 use Rattle.rules.proofs.Sets.{in-same}
-use Rattle.rules.proofs.Tests.{true-both, implied}
+use Rattle.rules.proofs.Tests.{implied}
 use Rattle.rules.proofs.Ranges.{map-at}
-use Rattle.rules.proofs.Alike.{alike-at}
-use Rattle.rules.proofs.Low.{below-at}
+use Rattle.rules.proofs.Alike.{alike-at, at-alike}
+use Rattle.rules.proofs.Low.{below-at, at-below}
 use Rattle.rules.proofs.Holding.{Position, true-position, holds-position, holds-dense, sparse-true, true-sparse, Whole, whole-dense, whole-diagonal, whole-sparse, whole-front, diagonal-rank, diagonal-extents, held-alike}
 use Rattle.rules.proofs.Moved.{moved-length, moved-at, moved-low, moved-below, largest-at, moved-to-entry, past-min-rank}
 use Rattle.rules.proofs.Permuting.{Usable, staysDiagonal}
-use Rattle.rules.proofs.Stretching.{at-below}
-use Rattle.rules.proofs.StretchedAlone.{fit-length}
+use Rattle.rules.proofs.Replaced.{fit-length}
 
 -- ---- numbers moved back
 
@@ -116,16 +115,6 @@ module _ {l : Layout} {entries : List ℕ} (u : Usable l entries) where
 
 -- ---- a diagonal
 
--- numbers that are each c are alike
-at-alike : (c : ℕ) (l : List ℕ) → ((k : ℕ) → k < length l → getD l k 0 ≡ c) → alike l ≡ true
-unfolding alike all
-at-alike c [] f = refl
-at-alike c (x ∷ l) f = rest l (λ k h. f 0 (omega arith) ∙ sym (f (suc k) (omega arith)))
-  where
-    rest : (l : List ℕ) → ((k : ℕ) → k < length l → x ≡ getD l k 0) → all (eqb x) l ≡ true
-    rest [] g = refl
-    rest (y ∷ l) g = true-both (eq-eqb x y (g 0 (omega arith))) (rest l (λ k h. g (suc k) (omega arith)))
-
 -- what goes to an axis, of numbers that are each v: v, or there goes no extent
 each-moved : (v k : ℕ) (entries index shape : List ℕ) → length index ≡ length shape → ((i : ℕ) → i < length index → getD index i 0 ≡ v) →
     (movedTo k 1 entries shape ≡ 1) ⊎ (movedTo k 0 entries index ≡ v)
@@ -170,48 +159,46 @@ module _ {l : Layout} (w : WellFormed l) (k : l .kind ≡ 1) (z : l .dense ≡ 0
       by (even h) = all-there (omega arith)
       by (above h) = all-there (omega arith)
 
-  -- moved, components that are equal are, if the moved extents are
-  moved-alike : alike (moved 1 entries (l .shape)) ≡ true → {index : List ℕ} → Position (l .shape) index → alike index ≡ true → alike (moved 0 entries index) ≡ true
-  moved-alike a {index} p e = by (compareNumbers 1 (getD (l .shape) 0 0))
+  -- where the extents are at most 1, moved components are 0
+  narrow-alike : getD (l .shape) 0 0 ≤ 1 → {index : List ℕ} → Position (l .shape) index → alike (moved 0 entries index) ≡ true
+  narrow-alike h {index} p = at-alike 0 (moved 0 entries index) (λ i g. omega (arith, moved-low {b = 1} entries index (λ j. zero-at j (compareNumbers j (length index))) i))
     where
-      long : (missing : ℕ) (numbers : List ℕ) → length (moved missing entries numbers) ≡ suc (largest entries)
-      long missing numbers = moved-length missing entries numbers
+      zero-at : (i : ℕ) → ComparedNumbers i (length index) → getD index i 0 < 1
+      zero-at i (under g) = omega (arith, below-at index (l .shape) (p .inside) i g (omega (arith, p .size)), extents-same i (omega (arith, p .size)))
+      zero-at i (even g) = omega (arith, List·getD-eq-default index 0 {n = i} (omega arith))
+      zero-at i (above g) = omega (arith, List·getD-eq-default index 0 {n = i} (omega arith))
 
-      zero-at : getD (l .shape) 0 0 ≤ 1 → (i : ℕ) → ComparedNumbers i (length index) → getD index i 0 < 1
-      zero-at h i (under g) = omega (arith, below-at index (l .shape) (p .inside) i g (omega (arith, p .size)), extents-same i (omega (arith, p .size)))
-      zero-at h i (even g) = omega (arith, List·getD-eq-default index 0 {n = i} (omega arith))
-      zero-at h i (above g) = omega (arith, List·getD-eq-default index 0 {n = i} (omega arith))
+  module _ (a : alike (moved 1 entries (l .shape)) ≡ true) where
+    -- where they are larger, some axis has an entry, and to every axis goes an extent
+    wide-extent : 1 < getD (l .shape) 0 0 → (i : ℕ) → i ≤ largest entries → movedTo i 1 entries (l .shape) ≡ getD (l .shape) 0 0
+    wide-extent h i g =
+        sym (moved-at 1 entries (l .shape) i 0 g) ∙ first i g ∙ sym (first to (largest-at entries 0))
+        ∙ moved-at 1 entries (l .shape) to 0 (largest-at entries 0) ∙ moved-to-entry 1 entries (l .shape) (u .once) 0 (some (compareNumbers 0 (length entries))) (diagonal-rank w k z)
+      where
+        to : ℕ
+        to = getD entries 0 0
 
-      narrow : getD (l .shape) 0 0 ≤ 1 → alike (moved 0 entries index) ≡ true
-      narrow h = at-alike 0 (moved 0 entries index) (λ i g. omega (arith, moved-low {b = 1} entries index (λ j. zero-at h j (compareNumbers j (length index))) i))
+        first : (j : ℕ) → j ≤ largest entries → getD (moved 1 entries (l .shape)) j 0 ≡ getD (moved 1 entries (l .shape)) 0 0
+        first j o = alike-at (moved 1 entries (l .shape)) a j (omega (arith, moved-length 1 entries (l .shape)))
 
-      some : 1 < getD (l .shape) 0 0 → 0 < length entries
-      some h = go (compareNumbers 0 (length entries))
-        where
-          go : ComparedNumbers 0 (length entries) → 0 < length entries
-          go (under g) = g
-          go (even g) = absurd (omega (arith, past-min-rank (l .shape) 0 (omega (arith, u .least)) (diagonal-rank w k z)))
-          go (above g) = absurd (omega arith)
+        some : ComparedNumbers 0 (length entries) → 0 < length entries
+        some (under o) = o
+        some (even o) = absurd (omega (arith, past-min-rank (l .shape) 0 (omega (arith, u .least)) (diagonal-rank w k z)))
+        some (above o) = absurd (omega arith)
 
-      extent : 1 < getD (l .shape) 0 0 → (i : ℕ) → i ≤ largest entries → movedTo i 1 entries (l .shape) ≡ getD (l .shape) 0 0
-      extent h i g =
-          let to = getD entries 0 0 in
-          let first = moved-to-entry 1 entries (l .shape) (u .once) 0 (some h) (diagonal-rank w k z) in
-          let here = alike-at (moved 1 entries (l .shape)) a i (omega (arith, long 1 (l .shape))) in
-          let there = alike-at (moved 1 entries (l .shape)) a to (omega (arith, long 1 (l .shape), largest-at entries 0)) in
-          sym (moved-at 1 entries (l .shape) i 0 g) ∙ here ∙ sym there ∙ moved-at 1 entries (l .shape) to 0 (largest-at entries 0) ∙ first
+    -- moved, components that are equal are
+    moved-alike : {index : List ℕ} → Position (l .shape) index → alike index ≡ true → alike (moved 0 entries index) ≡ true
+    moved-alike {index} p e = by (compareNumbers 1 (getD (l .shape) 0 0))
+      where
+        at : 1 < getD (l .shape) 0 0 → (i : ℕ) → i ≤ largest entries → getD (moved 0 entries index) i 0 ≡ getD index 0 0
+        at h i g =
+            moved-at 0 entries index i 0 g
+            ∙ ⊎-elim (λ one. absurd (omega (arith, wide-extent h i g))) (λ same. same) (each-moved (getD index 0 0) i entries index (l .shape) (p .size) (alike-at index e))
 
-      wide : 1 < getD (l .shape) 0 0 → alike (moved 0 entries index) ≡ true
-      wide h =
-          at-alike (getD index 0 0) (moved 0 entries index)
-          (λ i g. let inside : i ≤ largest entries = omega (arith, long 0 index) in
-          moved-at 0 entries index i 0 inside
-          ∙ ⊎-elim (λ one. absurd (omega (arith, extent h i inside))) (λ same. same) (each-moved (getD index 0 0) i entries index (l .shape) (p .size) (alike-at index e)))
-
-      by : ComparedNumbers 1 (getD (l .shape) 0 0) → alike (moved 0 entries index) ≡ true
-      by (under h) = wide h
-      by (even h) = narrow (omega arith)
-      by (above h) = narrow (omega arith)
+        by : ComparedNumbers 1 (getD (l .shape) 0 0) → alike (moved 0 entries index) ≡ true
+        by (under h) = at-alike (getD index 0 0) (moved 0 entries index) (λ i g. at h i (omega (arith, moved-length 0 entries index)))
+        by (even h) = narrow-alike (omega arith) p
+        by (above h) = narrow-alike (omega arith) p
 
 -- ---- what is held
 

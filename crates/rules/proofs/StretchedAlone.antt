@@ -1,14 +1,14 @@
 -- Which answer stretching gives of a sound layout, where each dependency takes every value on each stretched axis alone. Assumes nothing.
 use mathlib.Core.Path.{_≡_, refl, sym, _∙_, subst}
-use mathlib.Core.Bool.{Bool, true, false, _||_}
+use mathlib.Core.Bool.{true, false}
 use mathlib.Core.List.{List, [], _∷_, _++_}
 use Prim.Native.Nat.{ℕ, zero, suc, _+_, _≤_, _<_}
 use native.Mathlib.Nat.{one-mul, le-trans}
 use native.Mathlib.Omega.{arith}
 use borrow.Author.Tests.{lt-ltb, le-ltb, eqb-true, eq-eqb}
 use lib.Dec.{eqb}
-use lib.ListN.{length, getD, take, drop, replicate, length-append, length-replicate}
-use lib.Seq.{length-take-le, take-take, take-append-le}
+use lib.ListN.{length, getD, take, drop, replicate}
+use lib.Seq.{take-take, take-append-le}
 use Rattle.rules.specs.Limits.{rankLimit, productLimit, componentLimit}
 use Rattle.rules.specs.Lists.{implies, all, with, fitTo}
 use Rattle.rules.specs.RowsInOrder.{Each}
@@ -20,34 +20,16 @@ use Rattle.rules.specs.Stretching.{sharedAxesFit, stretchedAxes, everyVa
 use Rattle.rules.proofs.Order.{ComparedNumbers, under, even, above, compareNumbers}
 use Rattle.rules.proofs.Sets.{each-cons}
 use Rattle.rules.proofs.Few.{few-increasing, few-each}
-use Rattle.rules.proofs.Tests.{true-both, true-implies}
+use Rattle.rules.proofs.Tests.{true-both, true-implies, true-either}
 use Rattle.rules.proofs.Extents.{nonzero-more, nonzero-take, nonzero-cons, extent-nonzero}
-use Rattle.rules.proofs.Made.{fewOr, formed-made}
+use Rattle.rules.proofs.Made.{fewOr, Formed, formed-made}
 use Rattle.rules.proofs.Forming.{DepOfRank, DepsOfRank, states-of-rank, inputs-of-rank}
-use Rattle.rules.proofs.Changed.{Low, take-low, append-low, changed-low, changed-of-rank}
-use Rattle.rules.proofs.Replaced.{with-length, with-same, with-other, with-low}
+use Rattle.rules.proofs.Changed.{Low, changed-low, changed-of-rank}
+use Rattle.rules.proofs.Replaced.{with-length, with-same, with-other, with-low, fit-length, fit-low}
 use Rattle.rules.proofs.Gathering.{gather-each}
 use Rattle.rules.proofs.Taking.{every-only}
 use Rattle.rules.proofs.Axes.{stretched-below}
 use Rattle.rules.proofs.Stretching.{Stretches, stretched-formed, stretched-breaks}
-
--- ---- numbers fitted to a rank
-
--- there are as many as asked
-pub fit-length : (n v : ℕ) (l : List ℕ) → length (fitTo n v l) ≡ n
-unfolding fitTo
-fit-length n v l = length-take-le n (l ++ replicate n v) (rw (length-append, length-replicate) (omega arith))
-
--- one number, over and over, is below b if it is
-replicate-low : {b : ℕ} (n v : ℕ) → v < b → Low b (replicate n v)
-replicate-low zero v h k = omega arith
-replicate-low (suc n) v h zero = h
-replicate-low (suc n) v h (suc k) = replicate-low n v h k
-
--- filled up with 0, they are no larger
-pub fit-low : {b : ℕ} (n : ℕ) (l : List ℕ) → Low b l → Low b (fitTo n 0 l)
-unfolding fitTo
-fit-low n l f = take-low n (l ++ replicate n 0) (append-low l (replicate n 0) f (replicate-low n 0 (omega (arith, f 0))))
 
 -- ---- dependencies
 
@@ -121,13 +103,17 @@ module _ {l : Layout} {shape : List ℕ} (g : Stretches l shape) where
       rw (g .fits, le-ltb (l .dense + length shape) (rank l) (g .room))
       (stretched-breaks w g k e (stretchDeps (l .shape) shape (l .states)) (stretchDeps (l .shape) shape (l .inputs)))
 
-  -- otherwise it is given, unless a list passes the limit
-  pub stretch-given : Sound l → length shape ≤ rankLimit → nonzeroProduct shape ≤ productLimit → implies (isDiagonal l) (alike (take (width l) shape)) ≡ true →
-      broadcastToShape l shape ≡ fewOr (stretched l shape)
-  unfolding broadcastToShape lowest stretched
-  stretch-given s few-axes small e =
-      rw (g .fits, le-ltb (l .dense + length shape) (rank l) (g .room))
-      (formed-made (stretched-formed (s .form) g few-axes small e (alone-of-rank (l .shape) shape small (states-of-rank s)) (alone-of-rank (l .shape) shape small (inputs-of-rank s))))
+  module _ (s : Sound l) (few-axes : length shape ≤ rankLimit) (small : nonzeroProduct shape ≤ productLimit) (e : implies (isDiagonal l) (alike (take (width l) shape)) ≡ true) where
+    -- otherwise it is formed
+    pub alone-formed : Formed (stretched l shape)
+    unfolding stretched
+    alone-formed =
+        stretched-formed (s .form) g few-axes small e (alone-of-rank (l .shape) shape small (states-of-rank s)) (alone-of-rank (l .shape) shape small (inputs-of-rank s))
+
+    -- and given, unless a list passes the limit
+    pub stretch-given : broadcastToShape l shape ≡ fewOr (stretched l shape)
+    unfolding broadcastToShape lowest
+    stretch-given = rw (g .fits, le-ltb (l .dense + length shape) (rank l) (g .room)) (formed-made alone-formed)
 
 -- the numbers of its dependencies are below 2 ^ 31 if they were
 pub stretched-low : {l : Layout} → DepsLow l → (shape : List ℕ) → nonzeroProduct shape ≤ productLimit → DepsLow (stretched l shape)
@@ -144,11 +130,7 @@ cut-fits : (n : ℕ) (shape t : List ℕ) → sharedAxesFit shape (take n (shape
 unfolding sharedAxesFit
 cut-fits n [] t = refl
 cut-fits zero (e ∷ shape) t = refl
-cut-fits (suc n) (e ∷ shape) t = rw (eq-eqb e e refl) (true-both (or-true (eqb e 1)) (cut-fits n shape t))
-  where
-    or-true : (a : Bool) → a || true ≡ true
-    or-true true = refl
-    or-true false = refl
+cut-fits (suc n) (e ∷ shape) t = true-both (true-either (eqb e 1) (eqb e e) (λ _. eq-eqb e e refl)) (cut-fits n shape t)
 
 -- extents 1 behind others do not count
 ones-behind : (shape : List ℕ) (n : ℕ) → nonzeroProduct (shape ++ replicate n 1) ≤ nonzeroProduct shape

@@ -18,11 +18,11 @@ use Rattle.rules.proofs.Sets.{in-same}
 use Rattle.rules.proofs.Tests.{true-both}
 use Rattle.rules.proofs.Soundness.{OneKind, is-dense, is-diagonal, is-sparse, one-kind}
 use Rattle.rules.proofs.Ranges.{from-length, from-at, map-at}
-use Rattle.rules.proofs.Low.{below-at}
+use Rattle.rules.proofs.Low.{below-at, at-below}
 use Rattle.rules.proofs.Holding.{Position, position-true, true-position, holds-position, holds-dense, sparse-true, true-sparse}
 use Rattle.rules.proofs.Taking.{Taken}
 use Rattle.rules.proofs.Axes.{stretched-one, unstretched-same, rowAxes, row-axis, is-row-axis}
-use Rattle.rules.proofs.Stretching.{at-below, row-zero, stretch-only, stretch-has, Stretches, stretched-width}
+use Rattle.rules.proofs.Stretching.{row-zero, stretch-only, stretch-has, Stretches, stretched-width}
 
 -- ---- where a position comes from
 
