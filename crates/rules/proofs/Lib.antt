@@ -9,7 +9,7 @@
 --     DenseRemoved, Once, Lowering, Listed,
 --     Unions, UnionHolds, Low                                      the union of two sound layouts by plain cases, and what it holds
 --     Contracting, Moved, Permuting, Replaced, Ranging,
---     Gathering, Taking, Axes, Stretching, StretchedAlone          which answer an operation gives of a sound layout, by plain cases
+--     Gathering, Taking, Axes, Stretching, StretchedAlone, ToRank  which answer an operation gives of a sound layout, by plain cases
 --     Given                                                        that what they give is sound
 --     StretchedHolds, Full, ContractedHolds, PermutedHolds         what is held then
 --     Determined                                                   two outcomes that a contract allows are equal
@@ -61,6 +61,7 @@ pub mod Taking
 pub mod Axes
 pub mod Stretching
 pub mod StretchedAlone
+pub mod ToRank
 pub mod Given
 pub mod StretchedHolds
 pub mod Full

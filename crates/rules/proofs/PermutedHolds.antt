@@ -7,8 +7,8 @@ use Prim.Native.Nat.{ℕ, zero, suc, _-_, _≤_, _<_}
 use native.Mathlib.Omega.{arith}
 use borrow.Author.Tests.{eqb-true, eq-eqb, ne-eqb}
 use lib.Dec.{eqb, leb}
-use lib.ListN.{length, getD, take, replicate, length-map, List·getD-append, List·getD-eq-default}
-use lib.Seq.{take-all, getD-take, ext-getD}
+use lib.ListN.{length, getD, take, replicate, length-map, List·getD-eq-default}
+use lib.Seq.{take-all, ext-getD}
 use Rattle.rules.specs.Lists.{if, implies, largest, fitTo}
 use Rattle.rules.specs.Layout.{Layout, rank, isDiagonal, alike}
 use Rattle.rules.specs.Soundness.{WellFormed}
@@ -24,7 +24,7 @@ use Rattle.rules.proofs.Low.{below-at, at-below}
 use Rattle.rules.proofs.Holding.{Position, true-position, holds-position, holds-dense, sparse-true, true-sparse, Whole, whole-dense, whole-diagonal, whole-sparse, whole-front, diagonal-rank, diagonal-extents, held-alike}
 use Rattle.rules.proofs.Moved.{moved-length, moved-at, moved-low, moved-below, largest-at, moved-to-entry, past-min-rank}
 use Rattle.rules.proofs.Permuting.{Usable, staysDiagonal}
-use Rattle.rules.proofs.Replaced.{fit-length}
+use Rattle.rules.proofs.Replaced.{fit-length, fit-at, fit-past}
 
 -- ---- numbers moved back
 
@@ -32,27 +32,16 @@ use Rattle.rules.proofs.Replaced.{fit-length}
 unfoldable pub movedBack : ℕ → List ℕ → List ℕ → List ℕ
 movedBack n entries x = fitTo n 0 (map (λ p. getD x p 0) entries)
 
--- behind numbers stand zeros
-zeros-behind : (l : List ℕ) (n i : ℕ) → length l ≤ i → getD (l ++ replicate n 0) i 0 ≡ 0
-zeros-behind [] zero i h = refl
-zeros-behind [] (suc n) zero h = refl
-zeros-behind [] (suc n) (suc i) h = zeros-behind [] n i (omega arith)
-zeros-behind (x ∷ l) n zero h = absurd (omega arith)
-zeros-behind (x ∷ l) n (suc i) h = zeros-behind l n i (omega arith)
-
 module _ (n : ℕ) (entries x : List ℕ) where
   -- an axis with an entry
   back-at : (i : ℕ) → i < n → i < length entries → getD (movedBack n entries x) i 0 ≡ getD x (getD entries i 0) 0
-  unfolding movedBack fitTo
-  back-at i h g =
-      getD-take n (map (λ p. getD x p 0) entries ++ replicate n 0) i 0 h
-      ∙ List·getD-append (map (λ p. getD x p 0) entries) (replicate n 0) 0 i (rw length-map g)
-      ∙ map-at (λ p. getD x p 0) entries i 0 0 g
+  unfolding movedBack
+  back-at i h g = fit-at n 0 (map (λ p. getD x p 0) entries) i h (rw length-map g) ∙ map-at (λ p. getD x p 0) entries i 0 0 g
 
   -- an axis without one
-  back-past : (i : ℕ) → i < n → length entries ≤ i → getD (movedBack n entries x) i 0 ≡ 0
-  unfolding movedBack fitTo
-  back-past i h g = getD-take n (map (λ p. getD x p 0) entries ++ replicate n 0) i 0 h ∙ zeros-behind (map (λ p. getD x p 0) entries) n i (rw length-map g)
+  back-past : (i : ℕ) → length entries ≤ i → getD (movedBack n entries x) i 0 ≡ 0
+  unfolding movedBack
+  back-past i g = omega (arith, fit-past n 0 (map (λ p. getD x p 0) entries) i (rw length-map g))
 
 -- what was moved back goes to its axis again
 back-again : (k n : ℕ) (entries shape x t : List ℕ) → length entries ≤ n → length entries ≤ length shape → getD x k 0 < movedTo k 1 entries shape →
@@ -92,7 +81,7 @@ module _ {l : Layout} {entries : List ℕ} (u : Usable l entries) where
     }
       where
         past : (i : ℕ) → i < rank l → length entries ≤ i → getD (movedBack (rank l) entries x) i 0 < getD (l .shape) i 0
-        past i h g = omega (arith, back-past (rank l) entries x i h g, past-min-rank (l .shape) i (omega (arith, u .least)) h)
+        past i h g = omega (arith, back-past (rank l) entries x i g, past-min-rank (l .shape) i (omega (arith, u .least)) h)
 
         at : (i : ℕ) → i < rank l → ComparedNumbers i (length entries) → getD (movedBack (rank l) entries x) i 0 < getD (l .shape) i 0
         at i h (under g) =

@@ -1,27 +1,24 @@
 -- Which answer stretching gives of a sound layout, where each dependency takes every value on each stretched axis alone. Assumes nothing.
-use mathlib.Core.Path.{_≡_, refl, sym, _∙_, subst}
+use mathlib.Core.Path.{_≡_, sym, _∙_, subst}
 use mathlib.Core.Bool.{true, false}
-use mathlib.Core.List.{List, [], _∷_, _++_}
-use Prim.Native.Nat.{ℕ, zero, suc, _+_, _≤_, _<_}
-use native.Mathlib.Nat.{one-mul, le-trans}
+use mathlib.Core.List.{List}
+use Prim.Native.Nat.{ℕ, _+_, _≤_, _<_}
+use native.Mathlib.Nat.{le-trans}
 use native.Mathlib.Omega.{arith}
-use borrow.Author.Tests.{lt-ltb, le-ltb, eqb-true, eq-eqb}
-use lib.Dec.{eqb}
-use lib.ListN.{length, getD, take, drop, replicate}
-use lib.Seq.{take-take, take-append-le}
+use borrow.Author.Tests.{lt-ltb, le-ltb}
+use lib.ListN.{length, getD, take}
 use Rattle.rules.specs.Limits.{rankLimit, productLimit, componentLimit}
-use Rattle.rules.specs.Lists.{implies, all, with, fitTo}
+use Rattle.rules.specs.Lists.{implies, with, fitTo}
 use Rattle.rules.specs.RowsInOrder.{Each}
 use Rattle.rules.specs.Refusals.{refused, lowest}
 use Rattle.rules.specs.Layout.{Layout, rank, width, isDiagonal, nonzeroProduct, alike}
 use Rattle.rules.specs.Soundness.{NumbersBelow, DepsLow, WellFormed, Sound}
 use Rattle.rules.specs.Dependencies.{onIndex}
-use Rattle.rules.specs.Stretching.{sharedAxesFit, stretchedAxes, everyValue, alone, stretchDeps, stretched, broadcastToShape, broadcastToRank}
+use Rattle.rules.specs.Stretching.{sharedAxesFit, stretchedAxes, everyValue, alone, stretchDeps, stretched, broadcastToShape}
 use Rattle.rules.proofs.Order.{ComparedNumbers, under, even, above, compareNumbers}
 use Rattle.rules.proofs.Sets.{each-cons}
 use Rattle.rules.proofs.Few.{few-increasing, few-each}
-use Rattle.rules.proofs.Tests.{true-both, true-implies, true-either}
-use Rattle.rules.proofs.Extents.{nonzero-more, nonzero-take, nonzero-cons, extent-nonzero}
+use Rattle.rules.proofs.Extents.{extent-nonzero}
 use Rattle.rules.proofs.Made.{fewOr, Formed, formed-made}
 use Rattle.rules.proofs.Forming.{DepOfRank, DepsOfRank, states-of-rank, inputs-of-rank}
 use Rattle.rules.proofs.Changed.{Low, changed-low, changed-of-rank}
@@ -122,60 +119,3 @@ stretched-low {l} p shape small = record {
   states-low = alone-low (l .shape) shape small (omega arith) (p .states-low);
   inputs-low = alone-low (l .shape) shape small (omega arith) (p .inputs-low);
 }
-
--- ---- the answer to a rank
-
--- the extents of a shape, cut or with others behind them, fit the shape
-cut-fits : (n : ℕ) (shape t : List ℕ) → sharedAxesFit shape (take n (shape ++ t)) ≡ true
-unfolding sharedAxesFit
-cut-fits n [] t = refl
-cut-fits zero (e ∷ shape) t = refl
-cut-fits (suc n) (e ∷ shape) t = true-both (true-either (eqb e 1) (eqb e e) (λ _. eq-eqb e e refl)) (cut-fits n shape t)
-
--- extents 1 behind others do not count
-ones-behind : (shape : List ℕ) (n : ℕ) → nonzeroProduct (shape ++ replicate n 1) ≤ nonzeroProduct shape
-ones-behind (e ∷ shape) n = nonzero-cons e (shape ++ replicate n 1) shape (ones-behind shape n)
-ones-behind [] zero = omega arith
-ones-behind [] (suc n) = le-trans (one (replicate n 1)) (ones-behind [] n)
-  where
-    one : (t : List ℕ) → nonzeroProduct (1 ∷ t) ≤ nonzeroProduct t
-    one t = rw (nonzero-more 1 t (λ z. omega arith), one-mul) (omega arith)
-
--- the shape fitted to a rank multiplies to no more
-pub fit-product : (n : ℕ) (shape : List ℕ) → nonzeroProduct (fitTo n 1 shape) ≤ nonzeroProduct shape
-unfolding fitTo
-fit-product n shape = le-trans (nonzero-take n (shape ++ replicate n 1)) (ones-behind shape n)
-
--- a cut axis is not 1: 6
-pub rank-disagrees : (l : Layout) (r : ℕ) → all (eqb 1) (drop r (l .shape)) ≡ false → broadcastToRank l r ≡ refused 6
-unfolding broadcastToRank lowest
-rank-disagrees l r e = rw e
-
-module _ (l : Layout) (r : ℕ) (e : all (eqb 1) (drop r (l .shape)) ≡ true) where
-  -- otherwise it is stretched to the shape fitted to the rank, whose shared axes are equal
-  pub rank-stretches : broadcastToRank l r ≡ broadcastToShape l (fitTo r 1 (l .shape))
-  unfolding broadcastToRank lowest
-  rank-stretches = rw e
-
-  -- D would fall below 0: 11
-  pub rank-bars : l .dense + r < rank l → broadcastToRank l r ≡ refused 11
-  unfolding fitTo
-  rank-bars h = rank-stretches ∙ stretch-bars l (fitTo r 1 (l .shape)) (cut-fits r (l .shape) (replicate r 1)) (rw (fit-length r 1 (l .shape)) h)
-
-  module _ (room : rank l ≤ l .dense + r) where
-    -- it stretches to that shape
-    pub rank-fits : Stretches l (fitTo r 1 (l .shape))
-    unfolding fitTo
-    rank-fits = record { fits = cut-fits r (l .shape) (replicate r 1); room = rw (fit-length r 1 (l .shape)) room }
-
-    -- the first R - D extents stay
-    pub rank-front : take (width l) (fitTo r 1 (l .shape)) ≡ take (width l) (l .shape)
-    unfolding fitTo
-    rank-front = take-take (width l) r (l .shape ++ replicate r 1) (omega arith) ∙ take-append-le (width l) (l .shape) (replicate r 1) (omega arith)
-
-    -- it is given, unless a list passes the limit; never 12
-    pub rank-given : Sound l → r ≤ rankLimit → broadcastToRank l r ≡ fewOr (stretched l (fitTo r 1 (l .shape)))
-    rank-given s h =
-        rank-stretches
-        ∙ stretch-given rank-fits s (rw (fit-length r 1 (l .shape)) h) (le-trans (fit-product r (l .shape)) (s .sizes .product-most))
-        (true-implies (isDiagonal l) (alike (take (width l) (fitTo r 1 (l .shape)))) (λ k. rw rank-front (s .form .diagonal-alike (eqb-true (l .kind) 1 k))))

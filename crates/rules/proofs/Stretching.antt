@@ -1,4 +1,4 @@
--- Which answer stretching gives of a sound layout, case by case; shape, kind, D and rows apart from dependencies. Assumes nothing.
+-- A stretched layout, shape, kind, D and rows, whatever its dependencies: which rows it has, and when it is formed. Assumes nothing.
 use mathlib.Core.Path.{_≡_, refl, _∙_}
 use mathlib.Core.Bool.{Bool, true, false}
 use mathlib.Core.List.{List, [], _∷_, map, List·Memᴰ}
