@@ -86,6 +86,11 @@ if-full P x p q = go (isSparse x && eqb (length (x .rows)) (product (x .shape)))
 
 -- ---- it is sound
 
+-- few dependencies, shortened and merged, are few
+few-shortened : (deps : List (List ℕ)) → length deps ≤ entryLimit → length (shortenedDeps deps) ≤ entryLimit
+unfolding shortenedDeps
+few-shortened deps h = omega (arith, sorted-map-length (onIndex shortened) deps)
+
 module _ {l : Layout} (s : Sound l) (h : 0 < rank l) where
   -- dependencies shortened and merged are of the new rank
   deps-shortened : {deps : List (List ℕ)} → DepsOfRank (rank l) deps → DepsOfRank (length (shortened (l .shape))) (shortenedDeps deps)
@@ -102,15 +107,15 @@ module _ {l : Layout} (s : Sound l) (h : 0 < rank l) where
     inputs-are = deps-shortened (inputs-of-rank s);
   }
 
-  -- it has no more dependencies, and so it is sound if it is formed and has few rows
+  -- it is sound if it is formed and has few rows
   shorter-sound : {d : ℕ} {rows : List (List ℕ)} → length rows ≤ entryLimit → Formed (overShorter l d rows) → Sound (overShorter l d rows)
-  unfolding shortenedDeps
-  shorter-sound n f = formed-sound f n (omega (arith, sorted-map-length (onIndex shortened) (l .states), s .sizes .states-few)) (omega (arith, sorted-map-length (onIndex shortened) (l .inputs), s .sizes .inputs-few))
+  shorter-sound n f = formed-sound f n (few-shortened (l .states) (s .sizes .states-few)) (few-shortened (l .inputs) (s .sizes .inputs-few))
 
   -- so is the dense one
   dense-sound : (d : ℕ) (rows : List (List ℕ)) → Sound (toDense (overShorter l d rows))
-  unfolding toDense shortenedDeps
-  dense-sound d rows = formed-sound (to-dense-framed (shorter-framed d rows)) (omega arith) (omega (arith, sorted-map-length (onIndex shortened) (l .states), s .sizes .states-few)) (omega (arith, sorted-map-length (onIndex shortened) (l .inputs), s .sizes .inputs-few))
+  unfolding toDense
+  dense-sound d rows =
+      formed-sound (to-dense-framed (shorter-framed d rows)) (omega arith) (few-shortened (l .states) (s .sizes .states-few)) (few-shortened (l .inputs) (s .sizes .inputs-few))
 
   -- with one dense axis less the width is the same
   same-width : 0 < l .dense → length (shortened (l .shape)) - (l .dense - 1) ≡ width l
