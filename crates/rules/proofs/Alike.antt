@@ -1,7 +1,7 @@
 -- Numbers that are all equal, and the positions of a diagonal. Assumes nothing.
-use mathlib.Core.Path.{_≡_, refl, sym, ap}
-use mathlib.Core.Bool.{true}
-use mathlib.Core.List.{List, [], _∷_, List·Memᴰ, Memᴰ·append-left}
+use mathlib.Core.Path.{_≡_, refl, sym, ap, _∙_}
+use mathlib.Core.Bool.{Bool, true}
+use mathlib.Core.List.{List, [], _∷_, _++_, List·Memᴰ, Memᴰ·append-left}
 use Prim.Native.Nat.{ℕ, zero, suc, _<_, _≤_}
 use native.Mathlib.Omega.{arith}
 use borrow.Author.Tests.{eqb-true, eq-eqb, lt-ltb}
@@ -56,6 +56,35 @@ alike-take (suc k) (x ∷ l) e = each-all (eqb x) (take k l) (λ y m. all-each (
   where
     take-in : (k : ℕ) (l : List ℕ) {y : ℕ} → List·Memᴰ y (take k l) → List·Memᴰ y l
     take-in k l {y} m = rw take-append-drop at (Memᴰ·append-left (drop k l) m)
+
+-- numbers that are each c are alike
+pub at-alike : (c : ℕ) (l : List ℕ) → ((k : ℕ) → k < length l → getD l k 0 ≡ c) → alike l ≡ true
+unfolding alike all
+at-alike c [] f = refl
+at-alike c (x ∷ l) f = rest l (λ k h. f 0 (omega arith) ∙ sym (f (suc k) (omega arith)))
+  where
+    rest : (l : List ℕ) → ((k : ℕ) → k < length l → x ≡ getD l k 0) → all (eqb x) l ≡ true
+    rest [] g = refl
+    rest (y ∷ l) g = true-both (eq-eqb x y (g 0 (omega arith))) (rest l (λ k h. g (suc k) (omega arith)))
+
+-- numbers that pass a test do with one more that passes
+all-more : (test : ℕ → Bool) (l : List ℕ) (x : ℕ) → all test l ≡ true → test x ≡ true → all test (l ++ (x ∷ [])) ≡ true
+unfolding all
+all-more test [] x e f = rw f
+all-more test (y ∷ l) x e f = let h = both-true (test y) (all test l) e in true-both (h .0) (all-more test l x (h .1) f)
+
+-- numbers that are alike are with the first once more
+pub alike-more : (l : List ℕ) → alike l ≡ true → alike (l ++ (getD l 0 0 ∷ [])) ≡ true
+unfolding alike all
+alike-more [] e = refl
+alike-more (x ∷ l) e = all-more (eqb x) l x e (eq-eqb x x refl)
+
+-- one number is alike, and so is none
+pub short-alike : (l : List ℕ) → length l ≤ 1 → alike l ≡ true
+unfolding alike all
+short-alike [] h = refl
+short-alike (x ∷ []) h = refl
+short-alike (x ∷ y ∷ l) h = absurd (omega arith)
 
 -- one number, over and over, is alike
 pub replicate-alike : (n v : ℕ) → alike (replicate n v) ≡ true

@@ -20,11 +20,7 @@ abbrev pub Low : ℕ → List ℕ → Type 0
 Low b r = (k : ℕ) → getD r k 0 < b
 
 module _ {b : ℕ} where
-  -- no numbers are
-  pub nil-low : 0 < b → Low b []
-  nil-low h k = h
-
-  -- one more in front
+  -- one more in front is, if all are
   pub cons-low : {x : ℕ} (r : List ℕ) → x < b → Low b r → Low b (x ∷ r)
   cons-low r h f zero = h
   cons-low r h f (suc k) = f k

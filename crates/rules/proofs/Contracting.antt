@@ -22,7 +22,7 @@ use Rattle.rules.proofs.Order.{ComparedNumbers, under, even, above, com
 use Rattle.rules.proofs.Same.{both-true}
 use Rattle.rules.proofs.Sets.{each-nil}
 use Rattle.rules.proofs.Sorting.{sorted-each, sorted-sorted}
-use Rattle.rules.proofs.Tests.{true-both}
+use Rattle.rules.proofs.Tests.{true-both, true-either}
 use Rattle.rules.proofs.Soundness.{OneKind, is-dense, is-diagonal, is-sparse, one-kind}
 use Rattle.rules.proofs.Extents.{nonzero-take}
 use Rattle.rules.proofs.Alike.{alike-take}
@@ -86,6 +86,11 @@ if-full P x p q = go (isSparse x && eqb (length (x .rows)) (product (x .shape)))
 
 -- ---- it is sound
 
+-- few dependencies, shortened and merged, are few
+few-shortened : (deps : List (List ℕ)) → length deps ≤ entryLimit → length (shortenedDeps deps) ≤ entryLimit
+unfolding shortenedDeps
+few-shortened deps h = omega (arith, sorted-map-length (onIndex shortened) deps)
+
 module _ {l : Layout} (s : Sound l) (h : 0 < rank l) where
   -- dependencies shortened and merged are of the new rank
   deps-shortened : {deps : List (List ℕ)} → DepsOfRank (rank l) deps → DepsOfRank (length (shortened (l .shape))) (shortenedDeps deps)
@@ -102,15 +107,15 @@ module _ {l : Layout} (s : Sound l) (h : 0 < rank l) where
     inputs-are = deps-shortened (inputs-of-rank s);
   }
 
-  -- it has no more dependencies, and so it is sound if it is formed and has few rows
+  -- it is sound if it is formed and has few rows
   shorter-sound : {d : ℕ} {rows : List (List ℕ)} → length rows ≤ entryLimit → Formed (overShorter l d rows) → Sound (overShorter l d rows)
-  unfolding shortenedDeps
-  shorter-sound n f = formed-sound f n (omega (arith, sorted-map-length (onIndex shortened) (l .states), s .sizes .states-few)) (omega (arith, sorted-map-length (onIndex shortened) (l .inputs), s .sizes .inputs-few))
+  shorter-sound n f = formed-sound f n (few-shortened (l .states) (s .sizes .states-few)) (few-shortened (l .inputs) (s .sizes .inputs-few))
 
   -- so is the dense one
   dense-sound : (d : ℕ) (rows : List (List ℕ)) → Sound (toDense (overShorter l d rows))
-  unfolding toDense shortenedDeps
-  dense-sound d rows = formed-sound (to-dense-framed (shorter-framed d rows)) (omega arith) (omega (arith, sorted-map-length (onIndex shortened) (l .states), s .sizes .states-few)) (omega (arith, sorted-map-length (onIndex shortened) (l .inputs), s .sizes .inputs-few))
+  unfolding toDense
+  dense-sound d rows =
+      formed-sound (to-dense-framed (shorter-framed d rows)) (omega arith) (few-shortened (l .states) (s .sizes .states-few)) (few-shortened (l .inputs) (s .sizes .inputs-few))
 
   -- with one dense axis less the width is the same
   same-width : 0 < l .dense → length (shortened (l .shape)) - (l .dense - 1) ≡ width l
@@ -151,11 +156,7 @@ module _ {l : Layout} (s : Sound l) (h : 0 < rank l) where
   contracted-sound = by (compareNumbers 0 (l .dense)) (one-kind (s .form))
     where
       lower : 0 < l .dense → Sound (contracted l)
-      lower g = rw (contracted-dense-axis l (rw (lt-ltb 0 (l .dense) g) (or-true (isDense l)))) (fewer-sound g)
-        where
-          or-true : (t : Bool) → t || true ≡ true
-          or-true true = refl
-          or-true false = refl
+      lower g = rw (contracted-dense-axis l (true-either (isDense l) (ltb 0 (l .dense)) (λ _. lt-ltb 0 (l .dense) g))) (fewer-sound g)
 
       diagonal : l .kind ≡ 1 → l .dense ≡ 0 → ComparedNumbers 2 (rank l) → Sound (contracted l)
       diagonal k z (under g) = rw (contracted-diagonal l k z g) (diagonal-sound k z g)

@@ -9,7 +9,9 @@
 --     DenseRemoved, Once, Lowering, Listed,
 --     Unions, UnionHolds, Low                                      the union of two sound layouts by plain cases, and what it holds
 --     Contracting, Moved, Permuting, Replaced, Ranging,
---     Gathering, Taking, Axes, Stretching, StretchedAlone          which answer an operation gives of a sound layout, by plain cases
+--     Gathering, Taking, Axes, Stretching, StretchedAlone, ToRank  which answer an operation gives of a sound layout, by plain cases
+--     Given                                                        that what they give is sound
+--     StretchedHolds, Full, ContractedHolds, PermutedHolds         what is held then
 --     Determined                                                   two outcomes that a contract allows are equal
 --     WorkedByHand, Examples                                       the table, and examples of every operation
 --     Refusing, RefusedWith, Never14                               which numbers are given, and that 14 never is
@@ -59,6 +61,12 @@ pub mod Taking
 pub mod Axes
 pub mod Stretching
 pub mod StretchedAlone
+pub mod ToRank
+pub mod Given
+pub mod StretchedHolds
+pub mod Full
+pub mod ContractedHolds
+pub mod PermutedHolds
 pub mod Determined
 pub mod WorkedByHand
 pub mod Refusing

@@ -5,7 +5,7 @@ use mathlib.Core.List.{List, [], _∷_, map}
 use Prim.Native.Nat.{ℕ, zero, suc, _≤_, _<_}
 use native.Mathlib.Nat.{one-mul, le-trans}
 use native.Mathlib.Omega.{arith}
-use borrow.Author.Tests.{ltb-true, ltb-false, lt-ltb, eqb-true, eq-eqb, ne-eqb}
+use borrow.Author.Tests.{ltb-true, ltb-false, lt-ltb, eqb-true, eqb-false, eq-eqb, ne-eqb}
 use lib.Dec.{eqb, ltb}
 use lib.ListN.{length, getD, length-map}
 use lib.Seq.{ext-getD}
@@ -159,6 +159,15 @@ unfolding any
 none-at test [] e i h = absurd (omega arith)
 none-at test (x ∷ l) e zero h = neither (test x) (any test l) e .0
 none-at test (x ∷ l) e (suc i) h = none-at test l (neither (test x) (any test l) e .1) i (omega arith)
+
+-- to an axis without an entry goes what is missing
+pub moved-to-missing : (missing k : ℕ) (entries numbers : List ℕ) → any (eqb k) entries ≡ false → movedTo k missing entries numbers ≡ missing
+unfolding movedTo any
+moved-to-missing missing k [] numbers e = refl
+moved-to-missing missing k (p ∷ entries) [] e = refl
+moved-to-missing missing k (p ∷ entries) (x ∷ numbers) e =
+    let h = neither (eqb k p) (any (eqb k) entries) e in
+    rw (ne-eqb p k (λ d. eqb-false k p (h .0) (sym d))) (moved-to-missing missing k entries numbers (h .1))
 
 -- each number goes to its entry, if no entry stands there twice
 pub moved-to-entry : (missing : ℕ) (entries numbers : List ℕ) → repeats entries ≡ false → (i : ℕ) → i < length entries → i < length numbers →

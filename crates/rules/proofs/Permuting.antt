@@ -60,12 +60,18 @@ usable-true l entries e = record {
   once = not-true _ (test 3);
 }
   where
-    test : (k : ℕ) → getD (not (ltb (rank l) (length entries)) ∷ not (ltb (length entries) (minRank l)) ∷ all (upTo 3) entries ∷ not (repeats (naturals entries)) ∷ []) k true ≡ true
-    test = conjunct (not (ltb (rank l) (length entries))) (not (ltb (length entries) (minRank l)) ∷ all (upTo 3) entries ∷ not (repeats (naturals entries)) ∷ []) e
+    not-longer : Bool
+    not-longer = not (ltb (rank l) (length entries))
+
+    others : List Bool
+    others = not (ltb (length entries) (minRank l)) ∷ all (upTo 3) entries ∷ not (repeats (naturals entries)) ∷ []
+
+    test : (k : ℕ) → getD (not-longer ∷ others) k true ≡ true
+    test = conjunct not-longer others e
 
 -- ---- the diagonal
 
--- a moved diagonal is one: D is at most the new rank less 1, and the first R - D moved extents are alike
+-- a moved diagonal is one: D is at most the new rank R less 1, and the first R - D moved extents are alike
 unfoldable pub staysDiagonal : Layout → List ℕ → Bool
 staysDiagonal l entries = leb (l .dense) (largest entries) && alike (take (suc (largest entries) - l .dense) (moved 1 entries (l .shape)))
 
@@ -118,14 +124,16 @@ module _ {l : Layout} (s : Sound l) {entries : List ℕ} (u : Usable l entries) 
 
       diagonal : (k : l .kind ≡ 1) → Formed (permuted l entries)
       diagonal k =
-          let fits = both-true (leb 1 (width (permuted l entries))) (alike (take (width (permuted l entries)) (moved 1 entries (l .shape)))) (stays-fits l entries k ∙ implied (isDiagonal l) (staysDiagonal l entries) f (eq-eqb (l .kind) 1 k)) in
+          let stays = implied (isDiagonal l) (staysDiagonal l entries) f (eq-eqb (l .kind) 1 k) in
+          let fits = both-true (leb 1 (width (permuted l entries))) (alike (take (width (permuted l entries)) (moved 1 entries (l .shape)))) (stays-fits l entries k ∙ stays) in
           diagonal-framed moved-framed k (leb-true 1 (width (permuted l entries)) (fits .0)) (fits .1) (rw (diagonal-rows (s .form) k))
 
       sparse : (k : l .kind ≡ 2) → l .dense ≡ 0 → Formed (permuted l entries)
       sparse k z =
           sparse-framed moved-framed k (rw (k, z) (omega arith)) (once-distinct (moved-once z))
           (each-map (λ r. length r ≡ width (permuted l entries)) (moved 0 entries) (λ r g. rw (k, z, sub-zero) (moved-length 0 entries r ∙ sym rank-is)) (s .form .row-lengths))
-          (each-map {P = λ r. (length r ≡ rank l) × (allBelow r (l .shape) ≡ true)} (λ r. allBelow r (moved 1 entries (l .shape)) ≡ true) (moved 0 entries) (λ r g. moved-below entries r (l .shape) (g .0) (g .1)) (λ r m. (omega (arith, s .form .row-lengths r m), s .form .rows-below r m)))
+          (each-map {P = λ r. (length r ≡ rank l) × (allBelow r (l .shape) ≡ true)} (λ r. allBelow r (moved 1 entries (l .shape)) ≡ true) (moved 0 entries)
+          (λ r g. moved-below entries r (l .shape) (g .0) (g .1)) (λ r m. (omega (arith, s .form .row-lengths r m), s .form .rows-below r m)))
 
       by : OneKind l → Formed (permuted l entries)
       by (is-dense k) = dense-framed moved-framed k (rw k (sym rank-is)) (rw (dense-rows (s .form) k))

@@ -1,53 +1,32 @@
 -- Which answer stretching gives of a sound layout, where each dependency takes every value on each stretched axis alone. Assumes nothing.
-use mathlib.Core.Path.{_≡_, refl, sym, _∙_, subst}
-use mathlib.Core.Bool.{Bool, true, false, _||_}
-use mathlib.Core.List.{List, [], _∷_, _++_}
-use Prim.Native.Nat.{ℕ, zero, suc, _+_, _≤_, _<_}
-use native.Mathlib.Nat.{one-mul, le-trans}
+use mathlib.Core.Path.{_≡_, sym, _∙_, subst}
+use mathlib.Core.Bool.{true, false}
+use mathlib.Core.List.{List}
+use Prim.Native.Nat.{ℕ, _+_, _≤_, _<_}
+use native.Mathlib.Nat.{le-trans}
 use native.Mathlib.Omega.{arith}
-use borrow.Author.Tests.{lt-ltb, le-ltb, eqb-true, eq-eqb}
-use lib.Dec.{eqb}
-use lib.ListN.{length, getD, take, drop, replicate, length-append, length-replicate}
-use lib.Seq.{length-take-le, take-take, take-append-le}
+use borrow.Author.Tests.{lt-ltb, le-ltb}
+use lib.ListN.{length, getD, take}
 use Rattle.rules.specs.Limits.{rankLimit, productLimit, componentLimit}
-use Rattle.rules.specs.Lists.{implies, all, with, fitTo}
+use Rattle.rules.specs.Lists.{implies, with, fitTo}
 use Rattle.rules.specs.RowsInOrder.{Each}
 use Rattle.rules.specs.Refusals.{refused, lowest}
 use Rattle.rules.specs.Layout.{Layout, rank, width, isDiagonal, nonzeroProduct, alike}
 use Rattle.rules.specs.Soundness.{NumbersBelow, DepsLow, WellFormed, Sound}
 use Rattle.rules.specs.Dependencies.{onIndex}
-use Rattle.rules.specs.Stretching.{sharedAxesFit, stretchedAxes, everyValue, alone, stretchDeps, stretched, broadcastToShape, broadcastToRank}
+use Rattle.rules.specs.Stretching.{sharedAxesFit, stretchedAxes, everyValue, alone, stretchDeps, stretched, broadcastToShape}
 use Rattle.rules.proofs.Order.{ComparedNumbers, under, even, above, compareNumbers}
 use Rattle.rules.proofs.Sets.{each-cons}
 use Rattle.rules.proofs.Few.{few-increasing, few-each}
-use Rattle.rules.proofs.Tests.{true-both, true-implies}
-use Rattle.rules.proofs.Extents.{nonzero-more, nonzero-take, nonzero-cons, extent-nonzero}
-use Rattle.rules.proofs.Made.{fewOr, formed-made}
+use Rattle.rules.proofs.Extents.{extent-nonzero}
+use Rattle.rules.proofs.Made.{fewOr, Formed, formed-made}
 use Rattle.rules.proofs.Forming.{DepOfRank, DepsOfRank, states-of-rank, inputs-of-rank}
-use Rattle.rules.proofs.Changed.{Low, take-low, append-low, changed-low, changed-of-rank}
-use Rattle.rules.proofs.Replaced.{with-length, with-same, with-other, with-low}
+use Rattle.rules.proofs.Changed.{Low, changed-low, changed-of-rank}
+use Rattle.rules.proofs.Replaced.{with-length, with-same, with-other, with-low, fit-length, fit-low}
 use Rattle.rules.proofs.Gathering.{gather-each}
 use Rattle.rules.proofs.Taking.{every-only}
 use Rattle.rules.proofs.Axes.{stretched-below}
 use Rattle.rules.proofs.Stretching.{Stretches, stretched-formed, stretched-breaks}
-
--- ---- numbers fitted to a rank
-
--- there are as many as asked
-pub fit-length : (n v : ℕ) (l : List ℕ) → length (fitTo n v l) ≡ n
-unfolding fitTo
-fit-length n v l = length-take-le n (l ++ replicate n v) (rw (length-append, length-replicate) (omega arith))
-
--- one number, over and over, is below b if it is
-replicate-low : {b : ℕ} (n v : ℕ) → v < b → Low b (replicate n v)
-replicate-low zero v h k = omega arith
-replicate-low (suc n) v h zero = h
-replicate-low (suc n) v h (suc k) = replicate-low n v h k
-
--- filled up with 0, they are no larger
-pub fit-low : {b : ℕ} (n : ℕ) (l : List ℕ) → Low b l → Low b (fitTo n 0 l)
-unfolding fitTo
-fit-low n l f = take-low n (l ++ replicate n 0) (append-low l (replicate n 0) f (replicate-low n 0 (omega (arith, f 0))))
 
 -- ---- dependencies
 
@@ -121,13 +100,17 @@ module _ {l : Layout} {shape : List ℕ} (g : Stretches l shape) where
       rw (g .fits, le-ltb (l .dense + length shape) (rank l) (g .room))
       (stretched-breaks w g k e (stretchDeps (l .shape) shape (l .states)) (stretchDeps (l .shape) shape (l .inputs)))
 
-  -- otherwise it is given, unless a list passes the limit
-  pub stretch-given : Sound l → length shape ≤ rankLimit → nonzeroProduct shape ≤ productLimit → implies (isDiagonal l) (alike (take (width l) shape)) ≡ true →
-      broadcastToShape l shape ≡ fewOr (stretched l shape)
-  unfolding broadcastToShape lowest stretched
-  stretch-given s few-axes small e =
-      rw (g .fits, le-ltb (l .dense + length shape) (rank l) (g .room))
-      (formed-made (stretched-formed (s .form) g few-axes small e (alone-of-rank (l .shape) shape small (states-of-rank s)) (alone-of-rank (l .shape) shape small (inputs-of-rank s))))
+  module _ (s : Sound l) (few-axes : length shape ≤ rankLimit) (small : nonzeroProduct shape ≤ productLimit) (e : implies (isDiagonal l) (alike (take (width l) shape)) ≡ true) where
+    -- otherwise it is formed
+    pub alone-formed : Formed (stretched l shape)
+    unfolding stretched
+    alone-formed =
+        stretched-formed (s .form) g few-axes small e (alone-of-rank (l .shape) shape small (states-of-rank s)) (alone-of-rank (l .shape) shape small (inputs-of-rank s))
+
+    -- and given, unless a list passes the limit
+    pub stretch-given : broadcastToShape l shape ≡ fewOr (stretched l shape)
+    unfolding broadcastToShape lowest
+    stretch-given = rw (g .fits, le-ltb (l .dense + length shape) (rank l) (g .room)) (formed-made alone-formed)
 
 -- the numbers of its dependencies are below 2 ^ 31 if they were
 pub stretched-low : {l : Layout} → DepsLow l → (shape : List ℕ) → nonzeroProduct shape ≤ productLimit → DepsLow (stretched l shape)
@@ -136,64 +119,3 @@ stretched-low {l} p shape small = record {
   states-low = alone-low (l .shape) shape small (omega arith) (p .states-low);
   inputs-low = alone-low (l .shape) shape small (omega arith) (p .inputs-low);
 }
-
--- ---- the answer to a rank
-
--- the extents of a shape, cut or with others behind them, fit the shape
-cut-fits : (n : ℕ) (shape t : List ℕ) → sharedAxesFit shape (take n (shape ++ t)) ≡ true
-unfolding sharedAxesFit
-cut-fits n [] t = refl
-cut-fits zero (e ∷ shape) t = refl
-cut-fits (suc n) (e ∷ shape) t = rw (eq-eqb e e refl) (true-both (or-true (eqb e 1)) (cut-fits n shape t))
-  where
-    or-true : (a : Bool) → a || true ≡ true
-    or-true true = refl
-    or-true false = refl
-
--- extents 1 behind others do not count
-ones-behind : (shape : List ℕ) (n : ℕ) → nonzeroProduct (shape ++ replicate n 1) ≤ nonzeroProduct shape
-ones-behind (e ∷ shape) n = nonzero-cons e (shape ++ replicate n 1) shape (ones-behind shape n)
-ones-behind [] zero = omega arith
-ones-behind [] (suc n) = le-trans (one (replicate n 1)) (ones-behind [] n)
-  where
-    one : (t : List ℕ) → nonzeroProduct (1 ∷ t) ≤ nonzeroProduct t
-    one t = rw (nonzero-more 1 t (λ z. omega arith), one-mul) (omega arith)
-
--- the shape fitted to a rank multiplies to no more
-pub fit-product : (n : ℕ) (shape : List ℕ) → nonzeroProduct (fitTo n 1 shape) ≤ nonzeroProduct shape
-unfolding fitTo
-fit-product n shape = le-trans (nonzero-take n (shape ++ replicate n 1)) (ones-behind shape n)
-
--- a cut axis is not 1: 6
-pub rank-disagrees : (l : Layout) (r : ℕ) → all (eqb 1) (drop r (l .shape)) ≡ false → broadcastToRank l r ≡ refused 6
-unfolding broadcastToRank lowest
-rank-disagrees l r e = rw e
-
-module _ (l : Layout) (r : ℕ) (e : all (eqb 1) (drop r (l .shape)) ≡ true) where
-  -- otherwise it is stretched to the shape fitted to the rank, whose shared axes are equal
-  pub rank-stretches : broadcastToRank l r ≡ broadcastToShape l (fitTo r 1 (l .shape))
-  unfolding broadcastToRank lowest
-  rank-stretches = rw e
-
-  -- D would fall below 0: 11
-  pub rank-bars : l .dense + r < rank l → broadcastToRank l r ≡ refused 11
-  unfolding fitTo
-  rank-bars h = rank-stretches ∙ stretch-bars l (fitTo r 1 (l .shape)) (cut-fits r (l .shape) (replicate r 1)) (rw (fit-length r 1 (l .shape)) h)
-
-  module _ (room : rank l ≤ l .dense + r) where
-    -- it stretches to that shape
-    pub rank-fits : Stretches l (fitTo r 1 (l .shape))
-    unfolding fitTo
-    rank-fits = record { fits = cut-fits r (l .shape) (replicate r 1); room = rw (fit-length r 1 (l .shape)) room }
-
-    -- the first R - D extents stay
-    pub rank-front : take (width l) (fitTo r 1 (l .shape)) ≡ take (width l) (l .shape)
-    unfolding fitTo
-    rank-front = take-take (width l) r (l .shape ++ replicate r 1) (omega arith) ∙ take-append-le (width l) (l .shape) (replicate r 1) (omega arith)
-
-    -- it is given, unless a list passes the limit; never 12
-    pub rank-given : Sound l → r ≤ rankLimit → broadcastToRank l r ≡ fewOr (stretched l (fitTo r 1 (l .shape)))
-    rank-given s h =
-        rank-stretches
-        ∙ stretch-given rank-fits s (rw (fit-length r 1 (l .shape)) h) (le-trans (fit-product r (l .shape)) (s .sizes .product-most))
-        (true-implies (isDiagonal l) (alike (take (width l) (fitTo r 1 (l .shape)))) (λ k. rw rank-front (s .form .diagonal-alike (eqb-true (l .kind) 1 k))))

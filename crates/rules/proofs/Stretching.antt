@@ -1,10 +1,10 @@
--- Which answer stretching gives of a sound layout, case by case; shape, kind, D and rows apart from dependencies. Assumes nothing.
+-- A stretched layout, shape, kind, D and rows, whatever its dependencies: which rows it has, and when it is formed. Assumes nothing.
 use mathlib.Core.Path.{_≡_, refl, _∙_}
 use mathlib.Core.Bool.{Bool, true, false}
 use mathlib.Core.List.{List, [], _∷_, map, List·Memᴰ}
-use Prim.Native.Nat.{ℕ, suc, _+_, _*_, _≤_, _<_}
+use Prim.Native.Nat.{ℕ, _+_, _*_, _≤_, _<_}
 use native.Mathlib.Omega.{arith}
-use borrow.Author.Tests.{lt-ltb, le-leb, eq-eqb}
+use borrow.Author.Tests.{le-leb, eq-eqb}
 use lib.ListN.{length, getD, take}
 use Rattle.rules.specs.Limits.{rankLimit, productLimit}
 use Rattle.rules.specs.Lists.{implies, gather, product, allBelow}
@@ -15,9 +15,9 @@ use Rattle.rules.specs.Soundness.{WellFormed}
 use Rattle.rules.specs.Stretching.{sharedAxesFit, isStretched, takeAll, stretchRows, stretched}
 use Rattle.rules.proofs.Same.{true-not-false}
 use Rattle.rules.proofs.Sorting.{sorted-increasing, sorted-has, sorted-only}
-use Rattle.rules.proofs.Tests.{true-both, implied}
+use Rattle.rules.proofs.Tests.{implied}
 use Rattle.rules.proofs.Soundness.{OneKind, is-dense, is-diagonal, is-sparse, one-kind, dense-rows, diagonal-rows, increasing-distinct}
-use Rattle.rules.proofs.Low.{below-at}
+use Rattle.rules.proofs.Low.{below-at, at-below}
 use Rattle.rules.proofs.Made.{Formed}
 use Rattle.rules.proofs.Forming.{DepsOfRank, Framed, dense-framed, diagonal-framed, sparse-framed, bad-diagonal-made}
 use Rattle.rules.proofs.Once.{Once, once-distinct, distinct-once}
@@ -25,13 +25,6 @@ use Rattle.rules.proofs.Taking.{Taken, take-only, take-has, take-length
 use Rattle.rules.proofs.Axes.{stretched-one, unstretched-same, rowAxes, row-axis, is-row-axis, row-axes-apart}
 
 -- ---- rows
-
--- numbers that are each below their extent test so
-at-below : (r shape : List ℕ) → ((k : ℕ) → k < length r → getD r k 0 < getD shape k 0) → allBelow r shape ≡ true
-unfolding allBelow
-at-below [] shape f = refl
-at-below (c ∷ r) [] f = refl
-at-below (c ∷ r) (e ∷ shape) f = true-both (lt-ltb c e (f 0 (omega arith))) (at-below r shape (λ k h. f (suc k) (omega arith)))
 
 -- no rows take no values
 take-none : (shape axes : List ℕ) → takeAll shape axes [] ≡ []
