@@ -16,28 +16,28 @@ use Rattle.rules.proofs.Forming.{DepOfRank, DepsOfRank}
 -- ---- how large the numbers of a list are
 
 -- every number is below b
-abbrev pub Low : ℕ → List ℕ → Type 0
-Low b r = (k : ℕ) → getD r k 0 < b
+abbrev pub RowBelow : ℕ → List ℕ → Type 0
+RowBelow b r = (k : ℕ) → getD r k 0 < b
 
 module _ {b : ℕ} where
   -- one more in front is, if all are
-  pub cons-low : {x : ℕ} (r : List ℕ) → x < b → Low b r → Low b (x ∷ r)
+  pub cons-low : {x : ℕ} (r : List ℕ) → x < b → RowBelow b r → RowBelow b (x ∷ r)
   cons-low r h f zero = h
   cons-low r h f (suc k) = f k
 
   -- the first ones are, if all are
-  pub take-low : (n : ℕ) (r : List ℕ) → Low b r → Low b (take n r)
+  pub take-low : (n : ℕ) (r : List ℕ) → RowBelow b r → RowBelow b (take n r)
   take-low zero r f k = omega (arith, f k)
   take-low (suc n) [] f k = f k
   take-low (suc n) (x ∷ r) f zero = f zero
   take-low (suc n) (x ∷ r) f (suc k) = take-low n r (λ i. f (suc i)) k
 
   -- the last ones are, if all are
-  pub drop-low : (n : ℕ) (r : List ℕ) → Low b r → Low b (drop n r)
+  pub drop-low : (n : ℕ) (r : List ℕ) → RowBelow b r → RowBelow b (drop n r)
   drop-low n r f k = rw getD-drop (f _)
 
   -- those of two lists are
-  pub append-low : (p q : List ℕ) → Low b p → Low b q → Low b (p ++ q)
+  pub append-low : (p q : List ℕ) → RowBelow b p → RowBelow b q → RowBelow b (p ++ q)
   append-low [] q f g k = g k
   append-low (x ∷ p) q f g zero = f zero
   append-low (x ∷ p) q f g (suc k) = append-low p q (λ i. f (suc i)) g k
@@ -46,13 +46,13 @@ module _ {b : ℕ} where
 
 module _ (f : List ℕ → List ℕ) (d : List ℕ) where
   -- its numbers are below b, if those of a changed index are
-  pub changed-low : {b : ℕ} → Low b d → ((i : List ℕ) → Low b i → Low b (f i)) → Low b (onIndex f d)
+  pub changed-low : {b : ℕ} → RowBelow b d → ((i : List ℕ) → RowBelow b i → RowBelow b (f i)) → RowBelow b (onIndex f d)
   unfolding onIndex
   changed-low g h = append-low (f (indexOf d)) (drop (length d - 1) d) (h (indexOf d) (take-low (length d - 1) d g)) (drop-low (length d - 1) d g)
 
   -- it is of the new rank, if a changed index is
   pub changed-of-rank : {n m : ℕ} → DepOfRank n d → ((i : List ℕ) → length i ≡ n → length (f i) ≡ m) →
-      ((i : List ℕ) → Low productLimit i → Low productLimit (f i)) → DepOfRank m (onIndex f d)
+      ((i : List ℕ) → RowBelow productLimit i → RowBelow productLimit (f i)) → DepOfRank m (onIndex f d)
   unfolding onIndex
   changed-of-rank {n} {m} p size low = record {
     size = rw (length-append, length-drop, new) (omega (arith, p .size));
@@ -65,7 +65,7 @@ module _ (f : List ℕ → List ℕ) (d : List ℕ) where
       new : length (f (indexOf d)) ≡ m
       new = size (indexOf d) old
 
-      small : Low productLimit (indexOf d)
+      small : RowBelow productLimit (indexOf d)
       small k = go (compareNumbers k n)
         where
           past : n ≤ k → getD (indexOf d) k 0 < productLimit
@@ -84,16 +84,16 @@ each-map Q f h {t} p r m = let k = Memᴰ·of-map f t m in subst Q (k .2) (h (k 
 
 -- dependencies changed, sorted and once each are of the new rank, if a changed index is
 pub changed-sorted : (f : List ℕ → List ℕ) {n m : ℕ} → ((i : List ℕ) → length i ≡ n → length (f i) ≡ m) →
-    ((i : List ℕ) → Low productLimit i → Low productLimit (f i)) → {deps : List (List ℕ)} → DepsOfRank n deps → DepsOfRank m (sorted (map (onIndex f) deps))
+    ((i : List ℕ) → RowBelow productLimit i → RowBelow productLimit (f i)) → {deps : List (List ℕ)} → DepsOfRank n deps → DepsOfRank m (sorted (map (onIndex f) deps))
 changed-sorted f {n} {m} size low {deps} p = record {
   each = sorted-each (each-map (DepOfRank m) (onIndex f) (λ d q. changed-of-rank f d q size low) (p .each));
   increase = sorted-increasing (map (onIndex f) deps);
 }
 
 -- their numbers are below b, if those of a changed index are
-pub changed-sorted-low : (f : List ℕ → List ℕ) {b : ℕ} → ((i : List ℕ) → Low b i → Low b (f i)) →
+pub changed-sorted-low : (f : List ℕ → List ℕ) {b : ℕ} → ((i : List ℕ) → RowBelow b i → RowBelow b (f i)) →
     {deps : List (List ℕ)} → NumbersBelow b deps → NumbersBelow b (sorted (map (onIndex f) deps))
-changed-sorted-low f {b} low p = sorted-each (each-map (Low b) (onIndex f) (λ d q. changed-low f d q low) p)
+changed-sorted-low f {b} low p = sorted-each (each-map (RowBelow b) (onIndex f) (λ d q. changed-low f d q low) p)
 
 -- rows changed and sorted are not more
 pub sorted-map-length : (f : List ℕ → List ℕ) (t : List (List ℕ)) → length (sorted (map f t)) ≤ length t

@@ -19,7 +19,7 @@ use Rattle.rules.proofs.Tests.{true-both}
 use Rattle.rules.proofs.Extents.{nonzero-pos, nonzero-cons, nonzero-more-axes, nonzero-swap}
 use Rattle.rules.proofs.Ranges.{from-length, from-at, map-at}
 use Rattle.rules.proofs.Low.{below-at}
-use Rattle.rules.proofs.Changed.{Low}
+use Rattle.rules.proofs.Changed.{RowBelow}
 
 -- ---- what goes to an axis
 
@@ -36,7 +36,7 @@ moved-at missing entries numbers k d h =
     ∙ ap (λ (i : ℕ). movedTo i missing entries numbers) (from-at 0 (suc (largest entries)) k 0 (omega arith) ∙ omega arith)
 
 -- it is no larger than the numbers are
-pub moved-to-low : {b : ℕ} (k : ℕ) (entries numbers : List ℕ) → Low b numbers → movedTo k 0 entries numbers < b
+pub moved-to-low : {b : ℕ} (k : ℕ) (entries numbers : List ℕ) → RowBelow b numbers → movedTo k 0 entries numbers < b
 unfolding movedTo
 moved-to-low k [] numbers f = omega (arith, f 0)
 moved-to-low k (p ∷ entries) [] f = f 0
@@ -47,13 +47,13 @@ moved-to-low {b} k (p ∷ entries) (x ∷ numbers) f = go (eqb p k) (moved-to-lo
     go false rest = rest
 
 -- numbers made of others are below b, if each of them is
-map-low : {b : ℕ} (f : ℕ → ℕ) → ((k : ℕ) → f k < b) → (l : List ℕ) → Low b (map f l)
+map-low : {b : ℕ} (f : ℕ → ℕ) → ((k : ℕ) → f k < b) → (l : List ℕ) → RowBelow b (map f l)
 map-low f h [] k = omega (arith, h 0)
 map-low f h (x ∷ l) zero = h x
 map-low f h (x ∷ l) (suc k) = map-low f h l k
 
 -- moved numbers are no larger than the numbers are
-pub moved-low : {b : ℕ} (entries numbers : List ℕ) → Low b numbers → Low b (moved 0 entries numbers)
+pub moved-low : {b : ℕ} (entries numbers : List ℕ) → RowBelow b numbers → RowBelow b (moved 0 entries numbers)
 unfolding moved
 moved-low entries numbers f = map-low (λ k. movedTo k 0 entries numbers) (λ k. moved-to-low k entries numbers f) (below (suc (largest entries)))
 

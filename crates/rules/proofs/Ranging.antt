@@ -20,7 +20,7 @@ use Rattle.rules.proofs.Sets.{increasing-true}
 use Rattle.rules.proofs.Keeping.{keep-only, keep-length}
 use Rattle.rules.proofs.Made.{sound-formed, formed-deps}
 use Rattle.rules.proofs.Forming.{DepOfRank, states-of-rank, inputs-of-rank, formed-sound, sound-given, bad-deps-made}
-use Rattle.rules.proofs.Changed.{Low, take-low, changed-low, changed-of-rank, each-map}
+use Rattle.rules.proofs.Changed.{RowBelow, take-low, changed-low, changed-of-rank, each-map}
 use Rattle.rules.proofs.Replaced.{with-length, with-low}
 
 -- ---- an index less the start
@@ -35,10 +35,10 @@ module _ (axis start : ℕ) (index : List ℕ) where
       go false e = refl
 
   -- and no larger ones
-  less-start-low : {b : ℕ} → Low b index → Low b (lessStart axis start index)
+  less-start-low : {b : ℕ} → RowBelow b index → RowBelow b (lessStart axis start index)
   less-start-low {b} f = go (ltb axis (length index))
     where
-      go : (t : Bool) → Low b (if t (with axis (getD index axis 0 - start) index) index)
+      go : (t : Bool) → RowBelow b (if t (with axis (getD index axis 0 - start) index) index)
       go true = with-low axis (getD index axis 0 - start) index (omega (arith, f axis)) f
       go false = f
 
@@ -50,7 +50,7 @@ module _ (target source : Layout) (start end : ℕ) where
   cut index = lessStart (cutAxis source) start (take (rank target) index)
 
   -- it has no larger numbers
-  cut-low : {b : ℕ} (index : List ℕ) → Low b index → Low b (cut index)
+  cut-low : {b : ℕ} (index : List ℕ) → RowBelow b index → RowBelow b (cut index)
   cut-low index f = less-start-low (cutAxis source) start (take (rank target) index) (take-low (rank target) index f)
 
   -- dependencies of the source's rank are cut to the target's
@@ -70,7 +70,7 @@ module _ (target source : Layout) (start end : ℕ) where
   cut-deps-low : {b : ℕ} {deps : List (List ℕ)} → NumbersBelow b deps → NumbersBelow b (cutDeps target source start end deps)
   unfolding cutDeps
   cut-deps-low {b} {deps} f =
-      each-map (Low b) (onIndex cut) (λ d p. changed-low cut d p cut-low)
+      each-map (RowBelow b) (onIndex cut) (λ d p. changed-low cut d p cut-low)
       (λ d m. f d (keep-only (λ d. inRange source start end (indexOf d)) deps d m))
 
 -- ---- the answer

@@ -7,7 +7,7 @@ use lib.ListN.{length, getD, set, take, drop, replicate, length-append, length-s
 use lib.Seq.{length-take-le, set-split, getD-set-same, getD-set-other, set-getD, getD-take}
 use Rattle.rules.specs.Lists.{with, fitTo}
 use Rattle.rules.proofs.Order.{ComparedNumbers, under, even, above, compareNumbers}
-use Rattle.rules.proofs.Changed.{Low, cons-low, take-low, drop-low, append-low}
+use Rattle.rules.proofs.Changed.{RowBelow, cons-low, take-low, drop-low, append-low}
 
 -- ---- one number replaced
 
@@ -34,7 +34,7 @@ module _ {k : ℕ} (v : ℕ) (l : List ℕ) (h : k < length l) where
   with-other i n = rw with-set (getD-set-other l k i v 0 n)
 
 -- the numbers are below b, if they were and the new one is
-pub with-low : {b : ℕ} (k v : ℕ) (l : List ℕ) → v < b → Low b l → Low b (with k v l)
+pub with-low : {b : ℕ} (k v : ℕ) (l : List ℕ) → v < b → RowBelow b l → RowBelow b (with k v l)
 unfolding with
 with-low k v l h f = append-low (take k l) (v ∷ drop (suc k) l) (take-low k l f) (cons-low (drop (suc k) l) h (drop-low (suc k) l f))
 
@@ -46,13 +46,13 @@ unfolding fitTo
 fit-length n v l = length-take-le n (l ++ replicate n v) (rw (length-append, length-replicate) (omega arith))
 
 -- one number, over and over, is below b if it is
-replicate-low : {b : ℕ} (n v : ℕ) → v < b → Low b (replicate n v)
+replicate-low : {b : ℕ} (n v : ℕ) → v < b → RowBelow b (replicate n v)
 replicate-low zero v h k = omega arith
 replicate-low (suc n) v h zero = h
 replicate-low (suc n) v h (suc k) = replicate-low n v h k
 
 -- filled up with 0, they are no larger
-pub fit-low : {b : ℕ} (n : ℕ) (l : List ℕ) → Low b l → Low b (fitTo n 0 l)
+pub fit-low : {b : ℕ} (n : ℕ) (l : List ℕ) → RowBelow b l → RowBelow b (fitTo n 0 l)
 unfolding fitTo
 fit-low n l f = take-low n (l ++ replicate n 0) (append-low l (replicate n 0) f (replicate-low n 0 (omega (arith, f 0))))
 

@@ -21,7 +21,7 @@ use Rattle.rules.proofs.Few.{few-increasing, few-each}
 use Rattle.rules.proofs.Extents.{extent-nonzero}
 use Rattle.rules.proofs.Made.{fewOr, Formed, formed-made}
 use Rattle.rules.proofs.Forming.{DepOfRank, DepsOfRank, states-of-rank, inputs-of-rank}
-use Rattle.rules.proofs.Changed.{Low, changed-low, changed-of-rank}
+use Rattle.rules.proofs.Changed.{RowBelow, changed-low, changed-of-rank}
 use Rattle.rules.proofs.Replaced.{with-length, with-same, with-other, with-low, fit-length, fit-low}
 use Rattle.rules.proofs.Gathering.{gather-each}
 use Rattle.rules.proofs.Taking.{every-only}
@@ -74,10 +74,10 @@ module _ (old shape : List ℕ) (most : nonzeroProduct shape ≤ productLimit) w
   alone-low {b} h {deps} p =
       few-each (gather-each (λ d. alone shape (stretchedAxes old shape) (onIndex (fitTo (length shape) 0) d)) (λ d m. yields d (p d m)))
     where
-      yields : (d : List ℕ) → Low b d → NumbersBelow b (alone shape (stretchedAxes old shape) (onIndex (fitTo (length shape) 0) d))
+      yields : (d : List ℕ) → RowBelow b d → NumbersBelow b (alone shape (stretchedAxes old shape) (onIndex (fitTo (length shape) 0) d))
       yields d q =
           let fitted = changed-low (fitTo (length shape) 0) d q (λ i. fit-low (length shape) i) in
-          alone-each (Low b) (onIndex (fitTo (length shape) 0) d) fitted (λ axis v i g. with-low axis v (onIndex (fitTo (length shape) 0) d) (omega arith) fitted)
+          alone-each (RowBelow b) (onIndex (fitTo (length shape) 0) d) fitted (λ axis v i g. with-low axis v (onIndex (fitTo (length shape) 0) d) (omega arith) fitted)
 
 -- ---- the answer to a shape
 
