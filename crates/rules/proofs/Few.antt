@@ -7,10 +7,12 @@ use Prim.Native.Nat.{ℕ, _≤_, _<_}
 use native.Mathlib.Omega.{arith}
 use borrow.Author.Tests.{leb-false, lt-leb}
 use lib.ListN.{length}
-use Rattle.rules.specs.RowsInOrder.{insert, sorted, sortedOnto, sortedFew, Increasing, increasing-nil}
+use Rattle.rules.specs.Lists.{if}
+use Rattle.rules.specs.RowsInOrder.{insert, sorted, sortedOnto, sortedFew, Each, Increasing, increasing-nil}
 use Rattle.rules.specs.Layout.{few}
 use Rattle.rules.proofs.Same.{true-not-false}
-use Rattle.rules.proofs.Sorting.{insert-increasing, sorted-id}
+use Rattle.rules.proofs.Sets.{each-nil, each-head, each-tail}
+use Rattle.rules.proofs.Sorting.{insert-each, insert-increasing, sorted-id}
 use Rattle.rules.proofs.Merging.{sorted-snoc, sorted-left, merge-length-left, merge-nil-right}
 
 -- a row put in first and the rest then, or all at once
@@ -49,3 +51,33 @@ few-sorted long = gathered increasing-nil long .limit
 -- within the limit it is the sorted list
 pub sorted-few : (long : List (List ℕ)) → few (sorted long) ≡ true → sortedFew long ≡ sorted long
 sorted-few long e = gathered increasing-nil long .within e
+
+-- ---- what is gathered
+
+-- rows sorted onto others increase if those do
+onto-increasing : {t : List (List ℕ)} → Increasing t → (long : List (List ℕ)) → Increasing (sortedOnto t long)
+unfolding sortedOnto
+onto-increasing i [] = i
+onto-increasing {t} i (r ∷ long) = go (few t) (onto-increasing (insert-increasing r i) long)
+  where
+    go : (b : Bool) → Increasing (sortedOnto (insert r t) long) → Increasing (if b (sortedOnto (insert r t) long) t)
+    go true rest = rest
+    go false rest = i
+
+-- what holds of all rows holds of those that are sorted onto others
+onto-each : {P : List ℕ → Type 0} {t : List (List ℕ)} → Each P t → {long : List (List ℕ)} → Each P long → Each P (sortedOnto t long)
+unfolding sortedOnto
+onto-each f {long = []} g = f
+onto-each {P} {t} f {long = r ∷ long} g = go (few t) (onto-each (insert-each r (each-head g) f) (each-tail g))
+  where
+    go : (b : Bool) → Each P (sortedOnto (insert r t) long) → Each P (if b (sortedOnto (insert r t) long) t)
+    go true rest = rest
+    go false rest = f
+
+-- gathered rows increase
+pub few-increasing : (long : List (List ℕ)) → Increasing (sortedFew long)
+few-increasing long = onto-increasing increasing-nil long
+
+-- what holds of all rows holds of those that are gathered
+pub few-each : {P : List ℕ → Type 0} {long : List (List ℕ)} → Each P long → Each P (sortedFew long)
+few-each {P} g = onto-each (each-nil P) g

@@ -202,16 +202,16 @@ module _ {l : Layout} (w : WellFormed l) (k : l .kind ≡ 2) (d : l .dense ≡ 0
 abbrev pub diagonalRows : Layout → List (List ℕ)
 diagonalRows l = map (λ i. replicate (rank l) i) (below (getD (l .shape) 0 0))
 
-module _ {l : Layout} (w : WellFormed l) (k : l .kind ≡ 1) (d : l .dense ≡ 0) where
-  -- a position is held if its components are equal
-  held-alike : {q : List ℕ} → Position (l .shape) q → holds l q ≡ alike q
-  held-alike {q} p = holds-diagonal l q k ∙ (rw (true-position p, whole-front l d p))
+-- a position is held by a diagonal with no dense axis if its components are equal
+pub held-alike : (l : Layout) → l .kind ≡ 1 → l .dense ≡ 0 → {q : List ℕ} → Position (l .shape) q → holds l q ≡ alike q
+held-alike l k d {q} p = holds-diagonal l q k ∙ (rw (true-position p, whole-front l d p))
 
+module _ {l : Layout} (w : WellFormed l) (k : l .kind ≡ 1) (d : l .dense ≡ 0) where
   -- each (i,..,i) below the first extent is held
   replicate-held : (i : ℕ) → i < getD (l .shape) 0 0 → holds l (replicate (rank l) i) ≡ true
   replicate-held i h =
       let inside = replicate-below (rank l) (getD (l .shape) 0 0) i (l .shape) (alike-all (l .shape) (diagonal-extents w k d)) h in
-      held-alike (record { size = length-replicate (rank l) i; inside = inside }) ∙ replicate-alike (rank l) i
+      held-alike l k d (record { size = length-replicate (rank l) i; inside = inside }) ∙ replicate-alike (rank l) i
 
   -- a diagonal layout with no dense axis holds the positions (i,..,i)
   pub diagonal-positions : heldPositions l ≡ diagonalRows l
@@ -229,7 +229,7 @@ module _ {l : Layout} (w : WellFormed l) (k : l .kind ≡ 1) (d : l .dense ≡ 0
           let p = holds-position l q h in
           let first = first-below q (l .shape) (omega (arith, axes)) axes (p .inside) in
           let i : List·Memᴰ (getD q 0 0) (below extent) = from-has 0 extent (omega arith) (omega arith) in
-          in-same (rw (← p .size) (alike-replicate q (sym (held-alike p) ∙ h))) (Memᴰ·map (λ i. replicate (rank l) i) i)
+          in-same (rw (← p .size) (alike-replicate q (sym (held-alike l k d p) ∙ h))) (Memᴰ·map (λ i. replicate (rank l) i) i)
 
       found : Subset (diagonalRows l) (heldPositions l)
       found r m =

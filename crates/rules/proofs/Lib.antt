@@ -5,11 +5,16 @@
 --     RowsRead, Sections, Encoded, Walked, ReadBack                the record of a layout, and the layout of a record
 --     Ranges, Indices                                              every index of a shape, in order
 --     Before, Alike, Finding, Holding, Found, Counting             what is held, found and counted
---     Made, DenseRemoved, Once, Lowering, Listed,
+--     Made, Forming, Changed                                       a layout that is made: when it is formed, kind by kind
+--     DenseRemoved, Once, Lowering, Listed,
 --     Unions, UnionHolds, Low                                      the union of two sound layouts by plain cases, and what it holds
+--     Contracting, Moved, Permuting, Replaced, Ranging,
+--     Gathering, Taking, Axes, Stretching, StretchedAlone          which answer an operation gives of a sound layout, by plain cases
+--     Given                                                        that what they give is sound
+--     StretchedHolds, Full, ContractedHolds, PermutedHolds         what is held then
 --     Determined                                                   two outcomes that a contract allows are equal
 --     WorkedByHand                                                 the table
---     Refusing, Never14                                            which numbers are given, and that 14 never is
+--     Refusing, RefusedWith, Never14                               which numbers are given, and that 14 never is
 pub mod Order
 pub mod Same
 pub mod Sets
@@ -37,6 +42,8 @@ pub mod Holding
 pub mod Found
 pub mod Counting
 pub mod Made
+pub mod Forming
+pub mod Changed
 pub mod DenseRemoved
 pub mod Once
 pub mod Lowering
@@ -44,6 +51,21 @@ pub mod Listed
 pub mod Unions
 pub mod UnionHolds
 pub mod Low
+pub mod Contracting
+pub mod Moved
+pub mod Permuting
+pub mod Replaced
+pub mod Ranging
+pub mod Gathering
+pub mod Taking
+pub mod Axes
+pub mod Stretching
+pub mod StretchedAlone
+pub mod Given
+pub mod StretchedHolds
+pub mod Full
+pub mod ContractedHolds
+pub mod PermutedHolds
 pub mod Determined
 pub mod WorkedByHand
 pub mod Refusing

@@ -1,10 +1,10 @@
 -- How large the numbers of rows and of dependencies are. Assumes nothing.
-use mathlib.Core.Path.{_≡_, subst}
+use mathlib.Core.Path.{_≡_, refl, subst}
 use mathlib.Core.Bool.{true}
 use mathlib.Core.List.{List, [], _∷_}
 use Prim.Native.Nat.{ℕ, zero, suc, _≤_, _<_}
 use native.Mathlib.Omega.{arith}
-use borrow.Author.Tests.{ltb-true}
+use borrow.Author.Tests.{ltb-true, lt-ltb}
 use lib.Dec.{ltb}
 use lib.ListN.{length, getD, List·getD-eq-default}
 use Rattle.rules.specs.Limits.{productLimit}
@@ -18,6 +18,7 @@ use Rattle.rules.specs.Union.{union}
 use Rattle.rules.proofs.Order.{ComparedNumbers, under, even, above, compareNumbers}
 use Rattle.rules.proofs.Same.{both-true}
 use Rattle.rules.proofs.Sets.{each-append}
+use Rattle.rules.proofs.Tests.{true-both}
 use Rattle.rules.proofs.Sorting.{sorted-each}
 use Rattle.rules.proofs.Extents.{extent-limited}
 use Rattle.rules.proofs.Made.{made-sound}
@@ -33,6 +34,13 @@ below-at [] shape e k h i = absurd (omega arith)
 below-at (c ∷ r) [] e k h i = absurd (omega arith)
 below-at (c ∷ r) (n ∷ shape) e zero h i = ltb-true c n (both-true (ltb c n) (allBelow r shape) e .0)
 below-at (c ∷ r) (n ∷ shape) e (suc k) h i = below-at r shape (both-true (ltb c n) (allBelow r shape) e .1) k (omega arith) (omega arith)
+
+-- a row tests so, if each of its numbers is below its extent
+pub at-below : (r shape : List ℕ) → ((k : ℕ) → k < length r → getD r k 0 < getD shape k 0) → allBelow r shape ≡ true
+unfolding allBelow
+at-below [] shape f = refl
+at-below (c ∷ r) [] f = refl
+at-below (c ∷ r) (e ∷ shape) f = true-both (lt-ltb c e (f 0 (omega arith))) (at-below r shape (λ k h. f (suc k) (omega arith)))
 
 -- the numbers of a row that is below the extents of a sound layout are below 65,536
 row-low : {l : Layout} → WithinSizes l → (r : List ℕ) → length r ≤ rank l → allBelow r (l .shape) ≡ true → (k : ℕ) → getD r k 0 < productLimit

@@ -44,6 +44,16 @@ pub append-once : {a b : List (List ℕ)} → Once a → Once b → Each (λ r. 
 append-once once-nil p f = p
 append-once (once-cons {t} n o) p f = once-cons (λ m. ⊎-elim n (each-head f) (List·Memᴰ·append-cases t m)) (append-once o p (each-tail f))
 
+-- such rows changed are such, if no two become equal
+pub map-once : (f : List ℕ → List ℕ) {t : List (List ℕ)} → ((x y : List ℕ) → In x t → In y t → f x ≡ f y → x ≡ y) → Once t → Once (map f t)
+map-once f g once-nil = once-nil
+map-once f g (once-cons {x} {t} n o) = once-cons again (map-once f (λ p q m k. g p q (List·Memᴰ·tail m) (List·Memᴰ·tail k)) o)
+  where
+    again : In (f x) (map f t) → ⊥
+    again m =
+        let k = Memᴰ·of-map f t m in
+        n (in-same (sym (g (k .0) x (List·Memᴰ·tail (k .1)) (List·Memᴰ·head refl) (k .2))) (k .1))
+
 -- ---- each row with each end behind it
 
 -- such a row: a row and an end
@@ -84,11 +94,7 @@ crossed-length (r ∷ rows) ends = rw (length-append, length-map, crossed-length
 
 -- ends behind one row do not come again, if they did not before
 behind-once : (r : List ℕ) {t : List (List ℕ)} → Once t → Once (map (λ e. r ++ e) t)
-behind-once r once-nil = once-nil
-behind-once r (once-cons {x} {t} n o) = once-cons again (behind-once r o)
-  where
-    again : In (r ++ x) (map (λ e. r ++ e) t) → ⊥
-    again m = let k = Memᴰ·of-map (λ e. r ++ e) t m in n (in-same (sym (append-cancel-left r (k .0) x (k .2))) (k .1))
+behind-once r o = map-once (λ e. r ++ e) (λ x y m n e. append-cancel-left r x y e) o
 
 -- rows of one length that do not come again, with ends that do not, do not come again
 pub crossed-once : (n : ℕ) {rows ends : List (List ℕ)} → Each (λ r. length r ≡ n) rows → Once rows → Once ends → Once (crossed rows ends)

@@ -32,6 +32,11 @@ pub true-implies : (a b : Bool) → (a ≡ true → b ≡ true) → implies a b 
 true-implies true b f = f refl
 true-implies false b f = refl
 
+-- where a test follows from another that holds, it holds
+pub implied : (a b : Bool) → implies a b ≡ true → a ≡ true → b ≡ true
+implied true b e f = e
+implied false b e f = cc
+
 -- one of two tests holds, if the second does where the first fails
 pub true-either : (a b : Bool) → (a ≡ false → b ≡ true) → a || b ≡ true
 true-either true b f = refl

@@ -7,7 +7,7 @@ use native.Mathlib.Omega.{arith}
 use borrow.Author.Tests.{leb-false, lt-leb, eqb-false}
 use lib.ListN.{length}
 use Rattle.rules.specs.Lists.{if, same}
-use Rattle.rules.specs.RowsInOrder.{sorted, merge}
+use Rattle.rules.specs.RowsInOrder.{merge}
 use Rattle.rules.specs.Refusals.{given, refused, _then_, _when_, lowest}
 use Rattle.rules.specs.Layout.{Layout, rank, isDense, few, withDeps, made}
 use Rattle.rules.specs.Soundness.{Sound}
@@ -16,12 +16,13 @@ use Rattle.rules.specs.Removal.{listsRow}
 use Rattle.rules.specs.Pairs.{withMerged, alikeDiagonals, lowered, lowerD, barsExpansion, unlessDenseRemoved}
 use Rattle.rules.specs.Union.{joined, unionOfRows, union}
 use Rattle.rules.proofs.Same.{neither, true-not-false, same-true}
-use Rattle.rules.proofs.Sets.{each-nil, each-append}
+use Rattle.rules.proofs.Sets.{each-append}
 use Rattle.rules.proofs.Sorting.{sorted-each, sorted-sorted}
 use Rattle.rules.proofs.Merging.{merge-length-left, merge-length-right}
 use Rattle.rules.proofs.DenseRemoved.{none-removed, before-removed}
 use Rattle.rules.proofs.Once.{Once, once-distinct}
 use Rattle.rules.proofs.Made.{fewOr, Formed, sound-formed, formed-made, made-sound, formed-merged}
+use Rattle.rules.proofs.Forming.{sound-framed, to-dense-framed}
 use Rattle.rules.proofs.Lowering.{Lowered, lowered-is}
 
 -- no refusal is an answer
@@ -32,26 +33,7 @@ never e = let z : _≡_ {A = ℕ} 0 1 = cc in omega arith
 
 -- the dense layout of a sound one is formed
 pub dense-formed : {l : Layout} → Sound l → Formed (toDense l)
-unfolding toDense sorted
-dense-formed {l} s = record {
-  form = record {
-    kind-most = omega arith;
-    dense-most = omega arith;
-    rank-most = s .form .rank-most;
-    sparse-rows = λ _. refl;
-    rows-distinct = refl;
-    row-lengths = each-nil _;
-    rows-below = each-nil _;
-    dense-all = λ _. refl;
-    diagonal-wide = λ k. omega arith;
-    diagonal-alike = λ k. absurd (omega arith);
-    states-fit = record { lengths = s .form .states-fit .lengths; increase = s .form .states-fit .increase };
-    inputs-fit = record { lengths = s .form .inputs-fit .lengths; increase = s .form .inputs-fit .increase };
-  };
-  product-most = s .sizes .product-most;
-  states-small = s .sizes .states-small;
-  inputs-small = s .sizes .inputs-small;
-}
+dense-formed s = to-dense-framed (sound-framed s)
 
 -- the rows of two layouts of one shape and D joined are formed, with the dependencies of a sound one
 pub joined-formed : {a b x y : Layout} {d : ℕ} → Sound a → a .shape ≡ b .shape → d ≤ a .dense → Lowered a x d → Lowered b y d →
