@@ -6,4 +6,5 @@ pub mod Results
 pub mod Shapes
 pub mod LentSizes
 pub mod Endings
+pub mod RecordCalls
 pub mod PairCalls

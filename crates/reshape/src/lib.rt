@@ -1,0 +1,4 @@
+// One layout made of another by cutting or moving its axes. A record is read where it lies, and the new layout goes into one part.
+mod contract; // contract.rt: the last axis summed over
+
+pub use contract::contract_into;
