@@ -35,6 +35,12 @@ fn answer(
             work,
             out,
         ),
+        24 => ended(
+            layout::contract_last_axis(first, result, work),
+            result,
+            work,
+            out,
+        ),
         _ => replies::word(b"unknown", out, 0),
     }
 }
