@@ -29,6 +29,21 @@ fn answer(
     requests::fill(result);
     requests::fill(work);
     match number(request, 0) {
+        19 => ended(
+            layout::broadcast_to_shape(first, second, result, work),
+            result,
+            work,
+            out,
+        ),
+        20 => {
+            let rank = number(request, at[1]);
+            ended(
+                layout::broadcast_to_rank(first, rank, result, work),
+                result,
+                work,
+                out,
+            )
+        }
         22 => ended(
             layout::union(first, second, result, work),
             result,

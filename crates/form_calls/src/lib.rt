@@ -2,7 +2,6 @@
 ghost use mathlib.Core.Path.{_≡_};
 ghost use lib.ListN.{length};
 ghost use Rattle.rules.specs.Layout.{encode};
-ghost use Rattle.rules.specs.Arguments.{overRank};
 ghost use Rattle.rules.specs.Refusals.{inForm};
 ghost use Rattle.rules.specs.Endings.{EndsIn};
 ghost use Rattle.rules.specs.CountsAndForms.{toDenseCall, toDataLayoutCall, newEmptyCall, newScalarCall, denseCall, diagonalCall, sparseCall};
@@ -45,21 +44,11 @@ pub fn to_data_layout(record: &[i32], result: &mut [i32]) -> Written
     forms::to_data_layout(record, head, result)
 }
 
-// Whether an asked rank is over 4.
-fn over_rank(rank: i32) -> bool
-    ensures { λ r. ⌜ r ≡ overRank rank ⌝ }
-{
-    match cells::sign_of(rank) {
-        Sign::Natural(axes) => rules::RANK_LIMIT < axes,
-        Sign::Negative => false,
-    }
-}
-
 // The dense record of a rank whose extents are all 0.
 pub fn new_empty(rank: i32, result: &mut [i32]) -> Written
     ensures { λ r. ⌜ EndsIn (inForm encode (newEmptyCall rank (length (now (result .entry))))) (now (result .entry)) r (now (result .exit)) ⌝ }
 {
-    if over_rank(rank) {
+    if judging::over_rank(rank) {
         return Written::Refused(Refusal::OverCount);
     }
     if result.len() < parts::PART {

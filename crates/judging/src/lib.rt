@@ -2,8 +2,10 @@
 // reasons one by one, after which the working buffer is cleared.
 ghost use mathlib.Core.Path.{_≡_};
 ghost use mathlib.Core.Bool.{_||_};
+ghost use Rattle.rules.specs.Arguments.{overRank};
 ghost use Rattle.judging.specs.LentSizes.{SizesAre};
 ghost use Rattle.judging.specs.Judging.{ShapeIs, PairIs};
+use cells::Sign;
 use rules::Head;
 use rules::Refusal;
 use rules::Walk;
@@ -34,6 +36,16 @@ pub fn either(a: bool, b: bool) -> bool
         return true;
     }
     b
+}
+
+// Whether an asked rank is over 4.
+pub fn over_rank(rank: i32) -> bool
+    ensures { λ r. ⌜ r ≡ overRank rank ⌝ }
+{
+    match cells::sign_of(rank) {
+        Sign::Natural(axes) => rules::RANK_LIMIT < axes,
+        Sign::Negative => false,
+    }
 }
 
 // Whether a count is over its limit is told; it, a result of so many numbers and a working buffer of so many are judged with 1 and 2.

@@ -24,3 +24,5 @@ pub use shape_calls::can_broadcast_to;
 pub use shape_calls::cmp_index;
 pub use shape_calls::ravel_index;
 pub use shape_calls::unravel_index;
+pub use stretch_calls::broadcast_to_rank;
+pub use stretch_calls::broadcast_to_shape;

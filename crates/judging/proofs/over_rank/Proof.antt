@@ -1,8 +1,8 @@
 -- `over_rank`: by the first reason that holds.
 use Rattle.cells.specs.View.{signOf}
 use Rattle.judging.proofs.Results.{rank-natural, rank-negative}
-use Rattle.form_calls.proofs.over_rank.Statement.{statement}
-use Rattle.form_calls.proofs.over_rank.Tie as tie
+use Rattle.judging.proofs.over_rank.Statement.{statement}
+use Rattle.judging.proofs.over_rank.Tie as tie
 use Rattle.shapes.proofs.Reading.{handed-over}
 use borrow.Author.Needs.{needs}
 use mathlib.Core.Path.{_≡_}

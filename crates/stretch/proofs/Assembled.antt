@@ -1,0 +1,248 @@
+-- `stretch_into` and `stretch_to_rank`: each answer is the rule's. Assumes nothing.
+use mathlib.Core.Path.{_≡_, refl, sym, ap, _∙_}
+use mathlib.Core.Bool.{Bool, true, false, not, _&&_}
+use mathlib.Core.List.{List}
+use mathlib.Core.Logic.{inl}
+use Prim.Native.Nat.{ℕ, _+_, _-_, _<_, _≤_}
+use native.Mathlib.Nat.{le-trans}
+use native.Mathlib.Omega.{arith}
+use borrow.Author.Tests.{eqb-true, leb-true, le-leb, not-true, not-false}
+use lib.Dec.{eqb}
+use lib.IntN.{ℤ}
+use lib.ListN.{length, getD, take, drop}
+use Rattle.rules.specs.declared.Head.{Head}
+use Rattle.rules.specs.declared.Refusal.{Refusal}
+use Rattle.rules.specs.declared.Refusal.the-variants.{ShapesDisagree, DenseAxes, MadeUnsound, MadeTooLarge}
+use Rattle.rules.specs.declared.Step.{Step}
+use Rattle.rules.specs.declared.Step.the-variants.{Done, Refused}
+use Rattle.rules.specs.Limits.{productLimit}
+use Rattle.rules.specs.Lists.{implies, all, fitTo}
+use Rattle.rules.specs.Refusals.{Verdict, given, refused, numberOf}
+use Rattle.rules.specs.Layout.{Layout, rank, width, few, isDiagonal, withinProduct, nonzeroProduct, alike}
+use Rattle.rules.specs.Soundness.{DepsLow}
+use Rattle.rules.specs.Record.{layoutIn}
+use Rattle.rules.specs.Stretching.{sharedAxesFit, stretched, broadcastToShape, broadcastToRank}
+use Rattle.rules.proofs.Same.{both-true}
+use Rattle.rules.proofs.Made.{fewOr}
+use Rattle.rules.proofs.Stretching.{Stretches}
+use Rattle.rules.proofs.StretchedAlone.{stretch-disagrees, stretch-bars, stretch-breaks, stretch-given}
+use Rattle.rules.proofs.ToRank.{fit-product, rank-disagrees, rank-stretches}
+use Rattle.rules.proofs.Given.{stretch-sound, stretch-low}
+use Rattle.cells.specs.View.{view}
+use Rattle.tables.specs.Rows.{rowAt}
+use Rattle.tables.proofs.Rows.{row-length}
+use Rattle.tables.proofs.Only.{view-outside, row-outside}
+use Rattle.axes.specs.Extents.{Extents}
+use Rattle.records.specs.Sound.{SoundRecord}
+use Rattle.records.proofs.Layouts.{axes, has-states, has-inputs}
+use Rattle.records.proofs.SoundRecords.{lies, layout-sound, layout-shown}
+use Rattle.parts.specs.Parts.{partSize, kindAt, denseAt, rankAt, layoutAt}
+use Rattle.parts.specs.Answers.{Says}
+use Rattle.stretch.specs.Spread.{extentsIn}
+use Rattle.stretch.specs.Layouts.{StretchAsked, FillAsked, HeadAsked, HeadMade, TablesMade}
+use Rattle.stretch.proofs.Fitting.{front-row}
+
+-- a refusal is no answer
+never-done : {x : Refusal} → Refused x ≡ Done → ⊥
+never-done e = let z : _≡_ {A = ℕ} 0 1 = cc in omega arith
+
+-- a step that is refused says so
+says-refused : (r : Refusal) {v : Verdict Layout} (s : List ℤ) → v ≡ refused (numberOf r) → Says v 0 s (Refused r)
+says-refused r s e = record { is = sym e; holds = λ d. absurd (never-done d) }
+
+-- what does not both hold and fail is implied
+not-both : (p q : Bool) → p && not q ≡ false → implies p q ≡ true
+not-both true true e = refl
+not-both true false e = sym e
+not-both false q e = refl
+
+-- ---- a sound record
+
+module _ {h : Head} {src : List ℤ} (r : SoundRecord h src) where
+  shape-is : layoutIn src .shape ≡ extentsIn (h .rank) src
+  shape-is = ap (λ (x : Layout). x .shape) (layout-shown r)
+
+  kind-is : layoutIn src .kind ≡ getD (view src) 0 0
+  kind-is = ap (λ (x : Layout). x .kind) (layout-shown r)
+
+  dense-is : layoutIn src .dense ≡ getD (view src) 1 0
+  dense-is = ap (λ (x : Layout). x .dense) (layout-shown r)
+
+  extents-in : 3 + h .rank ≤ length src
+  extents-in = let b = lies r in omega (arith, b .shape-in, b .end-in)
+
+  rank-is : rank (layoutIn src) ≡ h .rank
+  rank-is = ap length shape-is ∙ row-length 3 (h .rank) src extents-in
+
+  sum-is : layoutIn src .dense + h .width ≡ rank (layoutIn src)
+  sum-is = omega (arith, dense-is, rank-is, axes (r .readable))
+
+  width-is : width (layoutIn src) ≡ h .width
+  width-is = omega (arith, sum-is)
+
+  low : DepsLow (layoutIn src)
+  low = rw (layout-shown r) (record { states-low = has-states (r .readable) .low; inputs-low = has-inputs (r .readable) .low })
+
+  -- it is not empty
+  pub some : 0 < length src
+  some = omega (arith, extents-in)
+
+-- ---- `stretch_into`
+
+module _ {h : Head} {src : List ℤ} {at n : ℕ} {shape : List ℤ} (a : StretchAsked h src at n shape) where
+  abbrev new : List ℕ
+  new = rowAt at n shape
+
+  abbrev answer : Verdict Layout
+  answer = broadcastToShape (layoutIn src) new
+
+  new-length : length new ≡ n
+  new-length = row-length at n shape (a .shapes .new-in)
+
+  small : nonzeroProduct new ≤ productLimit
+  unfolding withinProduct
+  small = leb-true (nonzeroProduct new) productLimit (a .shapes .within)
+
+  module _ {r : Bool} (e : r ≡ sharedAxesFit (extentsIn (h .rank) src) new) where
+    told : sharedAxesFit (layoutIn src .shape) new ≡ r
+    told = rw (shape-is (a .source)) (sym e)
+
+    -- shared axes do not fit: 6
+    pub disagrees : not r ≡ true → (s : List ℤ) → Says answer 0 s (Refused ShapesDisagree)
+    unfolding numberOf
+    disagrees f s = says-refused ShapesDisagree s (stretch-disagrees (layoutIn src) new (told ∙ not-true r f))
+
+    module _ (f : not r ≡ false) where
+      fits : sharedAxesFit (layoutIn src .shape) new ≡ true
+      fits = told ∙ not-false r f
+
+      -- D would fall below 0: 11
+      pub bars : n < h .width → (s : List ℤ) → Says answer 0 s (Refused DenseAxes)
+      unfolding numberOf
+      bars g s = says-refused DenseAxes s (stretch-bars (layoutIn src) new fits (omega (arith, new-length, sum-is (a .source))))
+
+      module _ (wide : h .width ≤ n) where
+        stretches : Stretches (layoutIn src) new
+        stretches = record { fits = fits; room = omega (arith, new-length, sum-is (a .source)) }
+
+        pub ask-bends : (0 < length src) × (at + h .width ≤ length shape)
+        ask-bends = (some (a .source), omega (arith, a .shapes .new-in))
+
+        front : take (width (layoutIn src)) new ≡ rowAt at (h .width) shape
+        front = rw (width-is (a .source)) (sym (front-row at (h .width) n shape wide))
+
+        module _ {b : Bool} (is : b ≡ eqb (getD (view src) 0 0) 1 && not (alike (rowAt at (h .width) shape))) where
+          -- a diagonal whose axes would not be alike: 12
+          pub breaks : b ≡ true → (s : List ℤ) → Says answer 0 s (Refused MadeUnsound)
+          unfolding numberOf
+          breaks g s =
+              let k = both-true (eqb (getD (view src) 0 0) 1) (not (alike (rowAt at (h .width) shape))) (sym is ∙ g) in
+              says-refused MadeUnsound s
+              (stretch-breaks stretches (layout-sound (a .source) .form) (kind-is (a .source) ∙ eqb-true (getD (view src) 0 0) 1 (k .0)) (rw front (not-true (alike (rowAt at (h .width) shape)) (k .1))))
+
+          pub ask-head : {s : List ℤ} → partSize ≤ length s → HeadAsked (h .width) src at n shape s
+          ask-head room = record { some = some (a .source); new-in = a .shapes .new-in; new-few = a .shapes .new-few; wide = wide; room = room }
+
+          module _ (g : b ≡ false) {s₀ s : List ℤ} (room : partSize ≤ length s₀) (m : HeadMade (getD (view src) 0 0) (n - h .width) new s₀ s) where
+            pub ask-fill : FillAsked h src at n shape s
+            ask-fill = record {
+              asked = a;
+              fits = rw (← shape-is (a .source)) fits;
+              wide = wide;
+              room = rw (m .only .size) room;
+            }
+
+            straight : implies (isDiagonal (layoutIn src)) (alike (take (width (layoutIn src)) new)) ≡ true
+            straight = rw (front, kind-is (a .source)) (not-both (eqb (getD (view src) 0 0) 1) (alike (rowAt at (h .width) shape)) (sym is ∙ g))
+
+            answer-is : answer ≡ fewOr (stretched (layoutIn src) new)
+            answer-is = stretch-given stretches (layout-sound (a .source)) (rw new-length (a .shapes .new-few)) small straight
+
+            module _ {t : List ℤ} {z : Bool} (p : TablesMade (layoutIn src) new s t z) where
+              -- the head in the end
+              front-stays : (k : ℕ) → k < 7 → getD (view t) k 0 ≡ getD (view s) k 0
+              front-stays k i = view-outside (p .only) k (inl i)
+
+              kind-there : kindAt 0 t ≡ layoutIn src .kind
+              kind-there = front-stays 0 (omega arith) ∙ m .kind-is ∙ sym (kind-is (a .source))
+
+              dense-there : denseAt 0 t ≡ layoutIn src .dense + length new - rank (layoutIn src)
+              dense-there = front-stays 1 (omega arith) ∙ m .dense-is ∙ omega (arith, new-length, sum-is (a .source))
+
+              rank-there : rankAt 0 t ≡ length new
+              rank-there = front-stays 2 (omega arith) ∙ m .rank-is
+
+              shape-there : rowAt 3 (length new) t ≡ new
+              shape-there = row-outside (p .only) 3 (length new) (inl (omega (arith, new-length, a .shapes .new-few))) ∙ m .shape-is
+
+              layout-there : z ≡ true → layoutAt 0 t ≡ stretched (layoutIn src) new
+              unfolding layoutAt stretched
+              layout-there d =
+                  let narrow : length new - (layoutIn src .dense + length new - rank (layoutIn src)) ≡ width (layoutIn src) =
+                  omega (arith, new-length, sum-is (a .source)) in
+                  rw (kind-there, dense-there, rank-there, narrow, shape-there, p .rows d, p .states d, p .inputs d)
+
+              -- it is made
+              pub is-made : z ≡ true → Says answer 0 t Done
+              unfolding stretched
+              is-made d =
+                  let is : answer ≡ given (layoutAt 0 t) = answer-is ∙ rw (← p .verdict, d) (ap given (sym (layout-there d))) in
+                  record {
+                    is = sym is;
+                    holds = λ _. record {
+                      inside = rw (p .only .size, m .only .size) room;
+                      sound = stretch-sound (layoutIn src) new is;
+                      low = stretch-low (layoutIn src) new is (low (a .source));
+                    };
+                  }
+
+              -- or too large: 13
+              pub too-large : z ≡ false → Says answer 0 t (Refused MadeTooLarge)
+              unfolding numberOf stretched
+              too-large d = says-refused MadeTooLarge t (answer-is ∙ rw (← p .verdict, d))
+
+-- ---- `stretch_to_rank`
+
+module _ {h : Head} {src : List ℤ} {n : ℕ} (q : SoundRecord h src × (n ≤ 4)) where
+  pub ask-extents : (3 + h .rank ≤ length src) × (h .rank ≤ 4) × (n ≤ 4)
+  ask-extents = (extents-in (q .0), lies (q .0) .rank-few, q .1)
+
+  module _ {b : Bool} (e : b ≡ all (eqb 1) (drop n (extentsIn (h .rank) src))) where
+    cut-told : all (eqb 1) (drop n (layoutIn src .shape)) ≡ b
+    cut-told = rw (shape-is (q .0)) (sym e)
+
+    -- a cut axis is not 1: 6
+    pub cut-disagrees : not b ≡ true → (s : List ℤ) → Says (broadcastToRank (layoutIn src) n) 0 s (Refused ShapesDisagree)
+    unfolding numberOf
+    cut-disagrees f s = says-refused ShapesDisagree s (rank-disagrees (layoutIn src) n (cut-told ∙ not-true b f))
+
+    module _ (f : not b ≡ false) (extents : List ℤ) (long : length extents ≡ 4) (is : rowAt 0 n extents ≡ fitTo n 1 (extentsIn (h .rank) src)) where
+      pub ask-stretch : StretchAsked h src 0 n extents
+      unfolding withinProduct
+      ask-stretch = record {
+        source = q .0;
+        shapes = record {
+          old-in = extents-in (q .0);
+          old-few = lies (q .0) .rank-few;
+          new-in = omega (arith, q .1);
+          new-few = q .1;
+          within =
+              rw (is, ← shape-is (q .0))
+              (le-leb (nonzeroProduct (fitTo n 1 (layoutIn src .shape))) productLimit (le-trans (fit-product n (layoutIn src .shape)) (layout-sound (q .0) .sizes .product-most)));
+        };
+      }
+
+      -- what the step says is said of the rank
+      pub rank-said : {t : List ℤ} {step : Step} → Says (broadcastToShape (layoutIn src) (rowAt 0 n extents)) 0 t step → Says (broadcastToRank (layoutIn src) n) 0 t step
+      rank-said p =
+          let new : rowAt 0 n extents ≡ fitTo n 1 (layoutIn src .shape) = is ∙ ap (fitTo n 1) (sym (shape-is (q .0))) in
+          rw (rank-stretches (layoutIn src) n (cut-told ∙ not-false b f), ← new) p
+
+-- ---- what is asked
+
+-- a sound record, and extents that lie in a slice and are within the limit
+pub ask-shape : {h : Head} {src : List ℤ} {at n : ℕ} {shape : List ℤ} → SoundRecord h src → Extents at n shape → n ≤ 4 → StretchAsked h src at n shape
+ask-shape r x few = record {
+  source = r;
+  shapes = record { old-in = extents-in r; old-few = lies r .rank-few; new-in = x .room; new-few = few; within = x .within };
+}

@@ -1,0 +1,164 @@
+-- Dependencies of a record, each fitted to the new rank: `fitted` and `stretch_deps`. Assumes nothing.
+use mathlib.Core.Path.{_≡_, refl, sym}
+use mathlib.Core.Bool.{Bool, true, false}
+use mathlib.Core.List.{List, [], _∷_, _++_, append-nil}
+use Prim.Native.Nat.{ℕ, zero, suc, _+_, _*_, _-_, _<_, _≤_}
+use native.Mathlib.Numerals.{add-one}
+use native.Mathlib.Omega.{arith}
+use lib.IntN.{ℤ, pos}
+use lib.ListN.{length, getD, take, drop, set, replicate, length-append, length-drop, drop-of-length-le}
+use lib.Seq.{take-suc-set, drop-cons}
+use Rattle.rules.specs.Lists.{gather, from, fitTo}
+use Rattle.rules.specs.Buffers.{part, over, zeros}
+use Rattle.rules.specs.Dependencies.{onIndex}
+use Rattle.rules.specs.Stretching.{stretchedAxes, alone}
+use Rattle.rules.proofs.Buffers.{length-part}
+use Rattle.rules.proofs.Changed.{changed-low}
+use Rattle.rules.proofs.Replaced.{fit-low}
+use Rattle.cells.specs.View.{view}
+use Rattle.cells.proofs.View.{view-set, view-over, view-part, view-getD, view-zeros}
+use Rattle.tables.specs.Rows.{rowAt, rowsAt, HasRow, HasRows}
+use Rattle.tables.specs.Tables.{tableAt, roomEnd, Ready}
+use Rattle.tables.proofs.Rows.{row-length, row-number, lent-row, row-ends, has-row, rows-more, rows-none}
+use Rattle.tables.proofs.Only.{only-then, only-set, only-wider}
+use Rattle.tables.proofs.Made.{emptied, emptied-ready}
+use Rattle.lowering.specs.Lowering.{Taken}
+use Rattle.lowering.proofs.Taking.{taken-none}
+use Rattle.stretch.specs.Spread.{Shapes, extentsIn, Smaller}
+use Rattle.stretch.specs.Tables.{inTurn, Filled, EntryAsked, FitAsked, DepsAsked, yielded}
+use Rattle.stretch.proofs.InTurn.{gather-append, turn-more, taken-turn, taken-halt}
+use Rattle.stretch.proofs.Fitting.{fitted-front, front-row}
+
+-- ---- one dependency: `fitted`
+
+module _ {at old rank : ℕ} {s : List ℤ} (a : FitAsked at old rank s) where
+  -- its number
+  abbrev number : ℕ
+  number = getD (view s) (at + old) 0
+
+  -- a dependency with its index changed
+  changed : (f : List ℕ → List ℕ) → onIndex f (rowAt at (old + 1) s) ≡ f (rowAt at old s) ++ (number ∷ [])
+  unfolding onIndex
+  changed f =
+      let d = rowAt at (old + 1) s in
+      let long : length d ≡ old + 1 = row-length at (old + 1) s (omega (arith, a .room)) in
+      let last : length d - 1 ≡ old = omega arith in
+      let none : drop (suc old) d ≡ [] = drop-of-length-le d {i = suc old} (omega arith) in
+      rw (last, ← front-row at old (old + 1) s (omega arith), drop-cons d old 0 (omega arith), none, row-number at (old + 1) old s (omega arith))
+
+  module _ {n : ℕ} (m : Smaller old rank n) {copied : List ℤ} (lent : copied ≡ over (take (at + n - at) (drop at s)) (zeros 5)) where
+    p : copied ≡ over (part at n s) (zeros 5)
+    p = rw (← lent-row at n s) lent
+
+    copied-is : view copied ≡ take n (rowAt at old s) ++ drop n (replicate 5 0)
+    copied-is =
+        rw (p, view-over, view-part, view-zeros, length-part at n s (omega (arith, a .room, m .first)), front-row at n old s (m .first))
+
+    copied-long : length (view copied) ≡ 5
+    copied-long =
+        rw (p, view-over, view-part, view-zeros, length-part at n s (omega (arith, a .room, m .first)))
+        (rw (length-append, row-length at n s (omega (arith, a .room, m .first)), length-drop) (omega (arith, m .first, a .old-few)))
+
+    -- the index is fitted, and the number stands behind it
+    pub is-fitted : {entry : List ℤ} → entry ≡ set copied rank (getD s (at + old) (pos 0)) → rowAt 0 (rank + 1) entry ≡ onIndex (fitTo rank 0) (rowAt at (old + 1) s)
+    unfolding part
+    is-fitted q =
+        let front : take rank (view copied) ≡ fitTo rank 0 (rowAt at old s) =
+        rw copied-is (fitted-front 0 (rowAt at old s) rank n 5 (rw (row-length at old s (omega (arith, a .room))) m) (omega (arith, a .rank-few))) in
+        rw (changed (fitTo rank 0), q, view-set, ← view-getD s (at + old), add-one, take-suc-set (view copied) rank number (omega (arith, copied-long, a .rank-few)), front)
+
+-- ---- a table that was emptied
+
+module _ {to w : ℕ} (s : List ℤ) {start : List ℤ} (room : roomEnd to w ≤ length s) (e : start ≡ set s to (pos 0)) where
+  -- it can take rows
+  pub start-ready : Ready to w start
+  start-ready = rw e (emptied-ready to w s room)
+
+  -- what it takes fills it
+  pub taken-filled : {rows : List (List ℕ)} {t : List ℤ} {r : Bool} → Taken to w rows start t r → Filled to w rows s t r
+  taken-filled p =
+      let empty : tableAt to w start ≡ [] = rw e (emptied to w s room) in
+      record {
+        verdict = rw empty at (p .verdict);
+        table = λ h. rw empty at (p .table h);
+        ready = p .ready;
+        only = only-then (rw e (only-wider (only-set to (pos 0) s) to (roomEnd to w) (omega arith) (omega arith))) (p .only);
+      }
+
+-- ---- all dependencies: `stretch_deps`
+
+-- what the rows of a slice give, one after the other
+pub rows-turn : (f : List ℕ → List (List ℕ)) (a w n : ℕ) (s : List ℤ) → gather f (rowsAt a w n s) ≡ inTurn (λ k. f (rowAt (a + k * w) w s)) n
+unfolding gather from
+rows-turn f a w zero s = rw rows-none
+rows-turn f a w (suc n) s =
+    let more : gather f (rowsAt a w (n + 1) s) ≡ inTurn (λ k. f (rowAt (a + k * w) w s)) (n + 1) =
+    rw (rows-more a w n s, gather-append f (rowsAt a w n s), rows-turn f a w n s, append-nil) (sym (turn-more (λ k. f (rowAt (a + k * w) w s)) n)) in
+    rw add-one at more
+
+-- what one dependency yields
+abbrev pub yieldOf : ℕ → ℕ → List ℤ → List ℕ → ℕ → List (List ℕ)
+yieldOf first old src new k = alone new (stretchedAxes (extentsIn old src) new) (onIndex (fitTo (length new) 0) (rowAt (first + k * (old + 1)) (old + 1) src))
+
+-- what the first i dependencies yield is in the table
+pub record Depending (first count old : ℕ) (src : List ℤ) (at rank : ℕ) (shape : List ℤ) (to i : ℕ) (s t : List ℤ) : Type 0 where
+  pub rows : HasRows first (old + 1) count src
+  pub shapes : Shapes old src at rank shape
+  pub upto : i ≤ count
+  pub taken : Taken to (rank + 1) (inTurn (yieldOf first old src (rowAt at rank shape)) i) s t true
+
+module _ {first count old : ℕ} {src : List ℤ} {at rank : ℕ} {shape : List ℤ} {to : ℕ} {s : List ℤ} where
+  pub start : {entry : List ℤ} → DepsAsked first count old src at rank shape to entry → s ≡ set entry to (pos 0) → Depending first count old src at rank shape to 0 s s
+  unfolding gather from
+  start {entry} a e = record { rows = a .rows; shapes = a .shapes; upto = omega arith; taken = taken-none (start-ready entry (a .room) e) }
+
+  module _ {entry : List ℤ} (a : DepsAsked first count old src at rank shape to entry) (e : s ≡ set entry to (pos 0)) {t : List ℤ} {r : Bool} where
+    -- all of it is what the rule gathers
+    pub all-yielded : Taken to (rank + 1) (inTurn (yieldOf first old src (rowAt at rank shape)) count) s t r →
+        Filled to (rank + 1) (yielded first count old src (rowAt at rank shape)) entry t r
+    all-yielded p =
+        rw (rows-turn (λ d. alone (rowAt at rank shape) (stretchedAxes (extentsIn old src) (rowAt at rank shape)) (onIndex (fitTo (length (rowAt at rank shape)) 0) d)) first (old + 1) count src)
+        (taken-filled entry (a .room) e p)
+
+  module _ {i : ℕ} {t : List ℤ} (g : Depending first count old src at rank shape to i s t) where
+    pub done : count ≤ i → Taken to (rank + 1) (inTurn (yieldOf first old src (rowAt at rank shape)) count) s t true
+    done h = let u = g .upto in let e : i ≡ count = omega arith in rw e at (g .taken)
+
+    module _ (h : i < count) where
+      -- where dependency i stands
+      pub place-ends : first + i * (old + 1) + (old + 1) ≤ length src
+      place-ends = omega (arith, row-ends (old + 1) h, g .rows .room)
+
+      there : HasRow (first + i * (old + 1)) (old + 1) src
+      there = has-row first (old + 1) count src (g .rows) i h
+
+      pub ask-fit : FitAsked (first + i * (old + 1)) old rank src
+      ask-fit = record { room = omega (arith, place-ends); old-few = g .shapes .old-few; rank-few = g .shapes .new-few }
+
+      module _ (entry : List ℤ) (long : length entry ≡ 5) (is : rowAt 0 (rank + 1) entry ≡ onIndex (fitTo rank 0) (rowAt (first + i * (old + 1)) (old + 1) src)) where
+        pub ask-entry : EntryAsked entry old src at rank shape to t
+        ask-entry = record {
+          row = record {
+            room = omega (arith, g .shapes .new-few);
+            low = rw is (changed-low (fitTo rank 0) (rowAt (first + i * (old + 1)) (old + 1) src) (there .low) (λ l. fit-low rank l));
+          };
+          shapes = g .shapes;
+          target = g .taken .ready refl;
+        }
+
+        module _ {u : List ℤ} {r : Bool} (p : Taken to (rank + 1) (alone (rowAt at rank shape) (stretchedAxes (extentsIn old src) (rowAt at rank shape)) (rowAt 0 (rank + 1) entry)) t u r) where
+          one : Taken to (rank + 1) (yieldOf first old src (rowAt at rank shape) i) t u r
+          one = rw (row-length at rank shape (g .shapes .new-in)) (rw is at p)
+
+          pub turn : r ≡ true → Depending first count old src at rank shape to (i + 1) s u
+          turn e = record {
+            rows = g .rows;
+            shapes = g .shapes;
+            upto = omega arith;
+            taken = taken-turn [] (yieldOf first old src (rowAt at rank shape)) (g .taken) one e;
+          }
+
+          pub stop : r ≡ false → Taken to (rank + 1) (inTurn (yieldOf first old src (rowAt at rank shape)) count) s u false
+          stop e = taken-halt [] (yieldOf first old src (rowAt at rank shape)) (g .taken) one count h e
+
+pub ruleset laws = (start, all-yielded, ask-fit, ask-entry, turn, stop, done)

@@ -1,0 +1,13 @@
+-- The laws that the proofs of stretch share.
+pub mod InTurn
+pub mod Fitting
+pub mod StretchedAxes
+pub mod Values
+pub mod Yields
+pub mod Depending
+pub mod Plus
+pub mod Moves
+pub mod ListedRows
+pub mod Heading
+pub mod Filling
+pub mod Assembled

@@ -1,0 +1,106 @@
+-- What is put into a table of the part.
+use mathlib.Core.Path.{_≡_}
+use mathlib.Core.Bool.{Bool, true}
+use mathlib.Core.List.{List, [], _∷_}
+use Prim.Native.Nat.{ℕ, _+_, _*_, _≤_, _<_}
+use lib.IntN.{ℤ}
+use lib.ListN.{length, getD}
+use Rattle.rules.specs.Limits.{productLimit}
+use Rattle.rules.specs.Lists.{if, gather, below, product, fitTo}
+use Rattle.rules.specs.RowsInOrder.{sorted, Each}
+use Rattle.rules.specs.Layout.{few}
+use Rattle.rules.specs.Positions.{unravel}
+use Rattle.rules.specs.Dependencies.{onIndex}
+use Rattle.rules.specs.Stretching.{isStretched, stretchedAxes, everyValue, alone}
+use Rattle.tables.specs.Rows.{rowAt, rowsAt, HasRow, HasRows}
+use Rattle.tables.specs.Tables.{tableAt, roomEnd, Only, Ready}
+use Rattle.axes.specs.Extents.{Extents}
+use Rattle.parts.specs.Parts.{rowsFrom}
+use Rattle.stretch.specs.Spread.{Shapes, extentsIn, plus}
+
+-- what f gives for 0, 1, .., n - 1, one after the other
+abbrev pub inTurn : (ℕ → List (List ℕ)) → ℕ → List (List ℕ)
+inTurn f n = gather f (below n)
+
+-- rows, in order and once each, are a table, or they are too many
+pub record Filled (to w : ℕ) (rows : List (List ℕ)) (s t : List ℤ) (r : Bool) : Type 0 where
+  pub verdict : r ≡ few (sorted rows)
+  pub table : r ≡ true → tableAt to w t ≡ sorted rows
+  pub ready : r ≡ true → Ready to w t
+  pub only : Only to (roomEnd to w) s t
+
+-- ---- dependencies
+
+-- an entry, one of its axes with an extent, and a table that can take entries as long
+pub record ValuesAsked (entry : List ℤ) (axis extent to w : ℕ) (s : List ℤ) : Type 0 where
+  pub row : HasRow 0 w entry
+  pub narrow : w ≤ 5
+  pub axis-in : axis < w
+  pub extent-most : extent ≤ productLimit
+  pub target : Ready to w s
+
+-- an entry for the new rank, both shapes, and a table that can take such entries
+pub record EntryAsked (entry : List ℤ) (old : ℕ) (from : List ℤ) (at rank : ℕ) (shape : List ℤ) (to : ℕ) (s : List ℤ) : Type 0 where
+  pub row : HasRow 0 (rank + 1) entry
+  pub shapes : Shapes old from at rank shape
+  pub target : Ready to (rank + 1) s
+
+-- what an entry yields on one axis: every value there if it is stretched
+abbrev pub yieldOn : List ℕ → List ℕ → List ℕ → ℕ → List (List ℕ)
+yieldOn old new d axis = if (isStretched old new axis) (everyValue new d axis) []
+
+-- a dependency in a record, and a rank to fit it to
+pub record FitAsked (at old rank : ℕ) (from : List ℤ) : Type 0 where
+  pub room : at + old + 1 ≤ length from
+  pub old-few : old ≤ 4
+  pub rank-few : rank ≤ 4
+
+-- some dependencies of a record, both shapes, and room for a table
+pub record DepsAsked (first count old : ℕ) (from : List ℤ) (at rank : ℕ) (shape : List ℤ) (to : ℕ) (s : List ℤ) : Type 0 where
+  pub rows : HasRows first (old + 1) count from
+  pub shapes : Shapes old from at rank shape
+  pub room : roomEnd to (rank + 1) ≤ length s
+
+-- what they yield, fitted to the new shape
+abbrev pub yielded : ℕ → ℕ → ℕ → List ℤ → List ℕ → List (List ℕ)
+yielded first count old from new =
+    gather (λ d. alone new (stretchedAxes (extentsIn old from) new) (onIndex (fitTo (length new) 0) d)) (rowsAt first (old + 1) count from)
+
+-- ---- rows
+
+-- a row and an index whose numbers are small
+pub record AddAsked (at w : ℕ) (from index : List ℤ) : Type 0 where
+  pub room : at + w ≤ length from
+  pub narrow : w ≤ 4
+  pub long : length index ≡ 5
+  pub row-small : (k : ℕ) → k < w → getD (rowAt at w from) k 0 ≤ productLimit
+  pub index-small : (k : ℕ) → k < w → getD (rowAt 0 w index) k 0 ≤ productLimit
+
+-- a row, and the number of an index over extents
+pub record MoveAsked (at w : ℕ) (from extents : List ℤ) (number : ℕ) : Type 0 where
+  pub room : at + w ≤ length from
+  pub narrow : w ≤ 4
+  pub row-small : (k : ℕ) → k < w → getD (rowAt at w from) k 0 ≤ productLimit
+  pub extents-are : Extents 0 w extents
+  pub inside : number < product (rowAt 0 w extents)
+
+-- a row, the number of all indices, and rows of a part
+pub record MovesAsked (at w : ℕ) (from extents : List ℤ) (size : ℕ) (s : List ℤ) : Type 0 where
+  pub room : at + w ≤ length from
+  pub narrow : w ≤ 4
+  pub row-small : (k : ℕ) → k < w → getD (rowAt at w from) k 0 ≤ productLimit
+  pub extents-are : Extents 0 w extents
+  pub size-is : size ≡ product (rowAt 0 w extents)
+  pub target : Ready rowsFrom w s
+
+-- some rows of a record with small numbers, extents, and room for rows
+pub record RowsAsked (first count w : ℕ) (from extents s : List ℤ) : Type 0 where
+  pub room : first + count * w ≤ length from
+  pub narrow : w ≤ 4
+  pub rows-small : Each (λ r. (k : ℕ) → k < w → getD r k 0 ≤ productLimit) (rowsAt first w count from)
+  pub extents-are : Extents 0 w extents
+  pub target : roomEnd rowsFrom w ≤ length s
+
+-- each row plus each index
+abbrev pub movedRows : ℕ → ℕ → ℕ → List ℤ → List ℕ → List (List ℕ)
+movedRows first count w from extents = gather (λ r. inTurn (λ n. plus r (unravel n extents) ∷ []) (product extents)) (rowsAt first w count from)

@@ -1,0 +1,200 @@
+-- `broadcast_to_shape`: what is judged, the step in the first part of the working buffer, and the end of the call.
+use mathlib.Core.Bool.{not, _||_}
+use native.Mathlib.Omega.{arith}
+use borrow.Author.Needs.{needs}
+use denote.Ref.{now}
+use lib.ListN.{length, length-take}
+use Rattle.rules.specs.Record.{layoutIn, shapeIn, goodShape}
+use Rattle.rules.specs.Arguments.{overRecord, overShape}
+use Rattle.rules.specs.Stretching.{broadcastToShape, broadcastToShapeCall}
+use Rattle.records.specs.Sound.{SoundRecord}
+use Rattle.records.proofs.SoundRecords.{sound-record}
+use Rattle.shapes.specs.Judged.{Judged}
+use Rattle.judging.specs.LentSizes.{SizesKept}
+use Rattle.judging.proofs.Judged.{not-holds, not-fails, told-not-true}
+use Rattle.stretch_calls.proofs.StretchCalls.{stretch-early, stretch-kept, stretch-unsound, stretch-wrong, stretch-says, stretch-done, late-shape, judged-shape, shape-asked, shape-said}
+use Rattle.stretch_calls.proofs.broadcast_to_shape.Statement.{statement}
+use Rattle.stretch_calls.proofs.broadcast_to_shape.Tie as tie
+
+-- where the function begins
+abbrev startOf : tie.After-enum-told → tie.Start
+startOf c = c .before .before .before .before .before .before
+
+-- the sizes are kept
+kept : (c : tie.After-enum-told) → SizesKept (overRecord (now (startOf c .args .«record»)) || overShape (now (startOf c .args .shape))) (length (now (startOf c .args .result))) (length (now (startOf c .args .work)))
+kept c =
+    let sizes = c .before .before in
+    let over = sizes .before in
+    let second = over .before in
+    let a = startOf c .args in
+    stretch-kept (overShape (now (a .shape))) (not (goodShape (now (a .shape)))) (broadcastToShape (layoutIn (now (a .«record»))) (shapeIn (now (a .shape)))) (now (a .«record»)) (now (a .result)) (now (a .work)) (second .before .over-record .ensures) (second .over-shape .ensures) (over .either .ensures) (sizes .judge-sizes .ensures) (c .enum-told .given .1)
+
+-- where the record is read
+abbrev start : tie.After-known-told2 → tie.Start
+start c = startOf (c .before .before .before .before)
+
+sized : (c : tie.After-known-told2) → SizesKept (overRecord (now (start c .args .«record»)) || overShape (now (start c .args .shape))) (length (now (start c .args .result))) (length (now (start c .args .work)))
+sized c = kept (c .before .before .before .before)
+
+judged : (c : tie.After-known-told2) → SoundRecord (c .before .head .given .0 .0) (now (start c .args .«record»))
+judged c =
+    let walked = c .before .before .before in
+    sound-record _ (walked .sound-head .ensures .0) (walked .sound-head .ensures .1) (c .before .head .given .1)
+
+-- where the shape is judged
+good : (c : tie.Else1) → Judged (now (start (c .before .before) .args .shape))
+good c = judged-shape (overRecord (now (start (c .before .before) .args .«record»))) _ (sized (c .before .before)) (c .before .good-shape .ensures) (c .if1 .left)
+
+over-record-requires : tie.Need-over-record-requires
+over-record-requires c κs = search needs
+
+over-shape-requires : tie.Need-over-shape-requires
+over-shape-requires c κs = search needs
+
+either-requires : tie.Need-either-requires
+either-requires c κs = search needs
+
+judge-sizes-requires : tie.Need-judge-sizes-requires
+judge-sizes-requires c κs = search needs
+
+enum-known-why : tie.Need-enum-known-why
+enum-known-why c = search needs
+
+returns : tie.Need-returns
+unfolding broadcastToShapeCall
+returns c =
+    let sizes = c .before .before .before in
+    let over = sizes .before in
+    let second = over .before in
+    let a = second .before .before .args in
+    stretch-early (overShape (now (a .shape))) (not (goodShape (now (a .shape)))) (broadcastToShape (layoutIn (now (a .«record»))) (shapeIn (now (a .shape)))) (now (a .«record»)) (now (a .result)) (now (a .work)) (second .before .over-record .ensures) (second .over-shape .ensures) (over .either .ensures) (sizes .judge-sizes .ensures) (c .before .why .given .1)
+
+enum-told : tie.Need-enum-told
+enum-told c = search needs
+
+sound-head-requires : tie.Need-sound-head-requires
+sound-head-requires c κs = search needs
+
+enum-known-head : tie.Need-enum-known-head
+enum-known-head c = search needs
+
+enum-told-2 : tie.Need-enum-told-2
+enum-told-2 c = search needs
+
+refuse-requires : tie.Need-refuse-requires
+refuse-requires c κs = kept (c .before .before .before .before) .work-long
+
+same-length : tie.Need-same-length
+same-length c = search needs
+
+returns-2 : tie.Need-returns-2
+unfolding broadcastToShapeCall
+returns-2 c =
+    let refused = c .before in
+    let told = refused .before .before in
+    let walked = told .before .before in
+    let a = startOf (walked .before) .args in
+    stretch-unsound (overShape (now (a .shape))) (not (goodShape (now (a .shape)))) (broadcastToShape (layoutIn (now (a .«record»))) (shapeIn (now (a .shape)))) (now (a .«record»)) (now (a .result)) (now (a .work)) (kept (walked .before)) (walked .sound-head .ensures .0) (told .enum-told2 .given .1) (refused .refuse .ensures)
+
+good-shape-requires : tie.Need-good-shape-requires
+good-shape-requires c κs = search needs
+
+refuse-requires-2 : tie.Need-refuse-requires-2
+refuse-requires-2 c κs = sized (c .before .before .before) .work-long
+
+same-length-2 : tie.Need-same-length-2
+same-length-2 c = search needs
+
+returns-3 : tie.Need-returns-3
+unfolding broadcastToShapeCall
+returns-3 c =
+    let refused = c .before in
+    let wrong = refused .before .before in
+    let read = wrong .before .before in
+    let a = start read .args in
+    stretch-wrong (overShape (now (a .shape))) (not (goodShape (now (a .shape)))) (broadcastToShape (layoutIn (now (a .«record»))) (shapeIn (now (a .shape)))) (now (a .«record»)) (now (a .result)) (now (a .work)) (sized read) (judged read)
+    (not-fails (goodShape (now (a .shape))) (told-not-true (goodShape (now (a .shape))) (wrong .before .good-shape .ensures) (wrong .if1 .taken)))
+    (refused .refuse2 .ensures)
+
+rank-requires : tie.Need-rank-requires
+rank-requires c κs = good c
+
+sub-stretch-into : tie.Need-sub-stretch-into
+sub-stretch-into c = search needs
+
+part-stretch-into-start : tie.Need-part-stretch-into-start
+part-stretch-into-start c = search needs
+
+part-stretch-into-end : tie.Need-part-stretch-into-end
+part-stretch-into-end c = omega (arith, sized (c .before .before .before) .work-long)
+
+stretch-into-requires : tie.Need-stretch-into-requires
+stretch-into-requires c κs =
+    let ranked = c .before in
+    let fine = ranked .before in
+    let read = fine .before .before in
+    (shape-asked (judged read) (good fine) (ranked .rank .ensures), simp length-take (omega (arith, sized read .work-long)))
+
+finish-requires : tie.Need-finish-requires
+finish-requires c κs =
+    let back = c .before .before in
+    let made = back .before in
+    let ranked = made .before .before in
+    let fine = ranked .before in
+    let read = fine .before .before in
+    let a = start read .args in
+    let k = sized read in (
+      (omega (arith, back .work3 .given .1, k .work-long), k .result-long),
+      stretch-says (overShape (now (a .shape))) (not (goodShape (now (a .shape)))) (broadcastToShape (layoutIn (now (a .«record»))) (shapeIn (now (a .shape)))) (now (a .«record»)) (now (a .result)) (now (a .work)) k (judged read) (back .work3 .given .0) (shape-said (judged read) (good fine) (ranked .rank .ensures) (made .stretch-into .ensures)) .holds,
+    )
+
+same-length-3 : tie.Need-same-length-3
+same-length-3 c = search needs
+
+same-length-4 : tie.Need-same-length-4
+same-length-4 c = search needs
+
+returns-4 : tie.Need-returns-4
+unfolding broadcastToShapeCall
+returns-4 c =
+    let finished = c .before .before in
+    let back = finished .before .before .before in
+    let made = back .before in
+    let ranked = made .before .before in
+    let fine = ranked .before in
+    let read = fine .before .before in
+    let a = start read .args in
+    stretch-done (overShape (now (a .shape))) (not (goodShape (now (a .shape)))) (broadcastToShape (layoutIn (now (a .«record»))) (shapeIn (now (a .shape)))) (now (a .«record»)) (now (a .result)) (now (a .work)) (sized read) (judged read) (back .work3 .given .0)
+    (shape-said (judged read) (good fine) (ranked .rank .ensures) (made .stretch-into .ensures))
+    (not-holds (goodShape (now (a .shape))) (good fine .good)) (late-shape _ _) (finished .finish .ensures)
+
+pub broadcast-to-shape-spec : {M : Type 1} → statement M
+broadcast-to-shape-spec =
+    tie.close
+    (tie.spec
+    over-record-requires
+    over-shape-requires
+    either-requires
+    judge-sizes-requires
+    enum-known-why
+    returns
+    enum-told
+    sound-head-requires
+    enum-known-head
+    enum-told-2
+    refuse-requires
+    same-length
+    returns-2
+    good-shape-requires
+    refuse-requires-2
+    same-length-2
+    returns-3
+    rank-requires
+    sub-stretch-into
+    part-stretch-into-start
+    part-stretch-into-end
+    stretch-into-requires
+    finish-requires
+    same-length-3
+    same-length-4
+    returns-4)
