@@ -6,22 +6,17 @@ use Prim.Native.Nat.{ℕ}
 use borrow.Author.Tests.{not-false}
 use lib.IntN.{ℤ}
 use lib.ListN.{length}
-use Rattle.rules.specs.Lists.{all, any}
 use Rattle.rules.specs.declared.Ordering.{Ordering}
 use Rattle.rules.specs.RowsInOrder.{cmpRows}
 use Rattle.rules.specs.Record.{goodShape, naturals}
 use Rattle.rules.specs.Arguments.{overShape, goodIndex}
 use Rattle.tables.specs.Rows.{rowAt, HasRow}
-use Rattle.shapes.specs.Judged.{Judged, AllJudged, shapesFrom, comparableIndices}
+use Rattle.shapes.specs.Judged.{Judged, comparableIndices}
 use Rattle.shapes.proofs.Reading.{compared-rows, compared-same}
 
 -- a shape that is not refused
 pub shape-judged : (s : List ℤ) {o g : Bool} → o ≡ overShape s → o ≡ false → g ≡ goodShape s → not g ≡ false → Judged s
 shape-judged s {g = g} e f h k = record { small = sym e ∙ f; good = sym h ∙ not-false g k }
-
--- shapes of which none is
-pub shapes-judged : (n : ℕ) (s : List ℤ) {o g : Bool} → o ≡ any overShape (shapesFrom n s) → o ≡ false → g ≡ all goodShape (shapesFrom n s) → not g ≡ false → AllJudged n s
-shapes-judged n s {g = g} e f h k = record { small = sym e ∙ f; good = sym h ∙ not-false g k }
 
 -- an index of as many components as were counted
 pub index-counted : (s : List ℤ) {m n : ℕ} {b : Bool} → m ≡ n → b ≡ goodIndex s m → b ≡ goodIndex s n

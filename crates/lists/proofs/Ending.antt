@@ -1,6 +1,6 @@
--- Where a record ends, and a block; where the record of a block begins. Assumes nothing.
-use mathlib.Core.Path.{_≡_, refl, sym, ap, _∙_}
-use mathlib.Core.List.{List, []}
+-- Where a thing ends. Assumes nothing.
+use mathlib.Core.Path.{_≡_, sym, ap, _∙_}
+use mathlib.Core.List.{List}
 use Prim.Native.Nat.{ℕ, suc, _+_, _-_, _^_, _<_, _≤_}
 use native.Mathlib.Numerals.{add-one}
 use native.Mathlib.Omega.{arith}
@@ -9,13 +9,45 @@ use lib.ListN.{length, take, drop, length-drop, drop-of-length-le}
 use lib.Seq.{drop-drop, drop-length}
 use mir.Syntax.{w64}
 use mir.Val.{Fits}
+use Rattle.rules.specs.declared.Entries.{Entries}
+use Rattle.rules.specs.declared.Section.{Section}
+use Rattle.rules.specs.declared.Section.the-variants.{Whole, Cut}
 use Rattle.rules.specs.declared.Head.{Head}
 use Rattle.rules.specs.declared.Walk.{Walk}
 use Rattle.rules.specs.declared.Walk.the-variants.{To, Broken}
-use Rattle.rules.specs.Record.{entriesFrom, sectionAt, walk, behindRecord, blockAt, behindBlock}
+use Rattle.rules.specs.Record.{sectionAt, walk, behindShape, behindRecord, behindBlock}
+use Rattle.records.specs.Sections.{Laid, SectionIn}
 use Rattle.records.specs.EndToEnd.{Behind}
 use Rattle.records.proofs.EndToEnd.{to-end}
 use Rattle.records.proofs.Walks.{walked-head}
+use Rattle.lists.specs.declared.walking.Thing.{Thing}
+use Rattle.lists.specs.declared.walking.Thing.the-variants.{Shape, Record, Block}
+use Rattle.lists.specs.Places.{behindThing}
+
+-- ---- a shape
+
+module _ (at : ℕ) (s : List ℤ) {g : Section} (is : g ≡ sectionAt 0 1 (take (length s - at) (drop at s))) (h : at ≤ length s) where
+  extents-shown : g ≡ sectionAt 0 1 (drop at s)
+  extents-shown = is ∙ ap (sectionAt 0 1) (to-end at s)
+
+  shape-room : {e : Entries} → SectionIn 0 1 (take (length s - at) (drop at s)) g → g ≡ Whole e → at + e .next ≤ length s
+  shape-room {e} lies f =
+      let l : Laid 0 1 (take (length s - at) (drop at s)) e = (rw f at lies) .0 in
+      let r : e .next ≤ length s - at = rw (to-end, length-drop) at (l .room) in
+      omega arith
+
+  pub shape-fits : {e : Entries} → SectionIn 0 1 (take (length s - at) (drop at s)) g → g ≡ Whole e → length s < 2 ^ 64 → Fits w64 (at + e .next)
+  shape-fits lies f k = record { fits = let r = shape-room lies f in omega arith }
+
+  pub behind-extents : {e : Entries} → SectionIn 0 1 (take (length s - at) (drop at s)) g → g ≡ Whole e → Behind behindShape at s (at + e .next)
+  unfolding behindShape
+  behind-extents {e} lies f = record { inside = shape-room lies f; rest = rw (← extents-shown, f) (sym (drop-drop (e .next) at s)) }
+
+  pub behind-cut : g ≡ Cut → Behind behindShape at s (length s)
+  unfolding behindShape
+  behind-cut f = record { inside = omega arith; rest = rw (← extents-shown, f) (drop-length s) }
+
+pub ruleset shape-laws = (shape-fits, behind-extents, behind-cut)
 
 -- ---- a record
 
@@ -45,39 +77,35 @@ module _ (at : ℕ) (s : List ℤ) {w : Walk} (is : w ≡ walk (take (length s -
 
 pub ruleset record-laws = (walked-fits, behind-walked, behind-broken)
 
--- ---- a block
+-- ---- so many numbers further on
 
--- behind nothing stands nothing
-behind-nothing : behindRecord [] ≡ []
-unfolding behindRecord walk sectionAt entriesFrom
-behind-nothing = refl
+-- the slice has fewer
+pub further-end : (at by : ℕ) (s : List ℤ) → length s - at < by → Behind (drop by) at s (length s)
+further-end at by s h =
+    let short : length (drop at s) ≤ by = rw length-drop (omega arith) in
+    record { inside = omega arith; rest = drop-length s ∙ sym (drop-of-length-le (drop at s) short) }
 
--- one that is cut off before its record takes the rest
-pub behind-cut : (at rank : ℕ) (s : List ℤ) → length s - at ≤ rank → Behind (behindBlock rank) at s (length s)
-unfolding behindBlock
-behind-cut at rank s h =
-    let short : length (drop at s) ≤ suc rank = rw length-drop (omega arith) in
-    record { inside = omega arith; rest = rw (drop-of-length-le (drop at s) short, behind-nothing) (drop-length s) }
+-- it has them
+pub further-there : (at by : ℕ) (s : List ℤ) → at ≤ length s → by ≤ length s - at → Behind (drop by) at s (at + by)
+further-there at by s h k = record { inside = omega arith; rest = sym (drop-drop by at s) }
 
--- any other ends where its record does
-pub behind-whole : (at rank : ℕ) (s : List ℤ) {r : ℕ} → Behind behindRecord (at + rank + 1) s r → Behind (behindBlock rank) at s r
-unfolding behindBlock
-behind-whole at rank s b =
-    let place : at + rank + 1 ≡ at + suc rank = omega arith in
-    record { inside = b .inside; rest = b .rest ∙ rw (place, drop-drop) }
+pub ruleset further-laws = (further-end, further-there)
 
-pub ruleset block-laws = (behind-cut, behind-whole)
+-- ---- a thing
 
--- ---- the record of the block at the front
+module _ {thing : Thing} {at r : ℕ} {s : List ℤ} where
+  pub behind-shape : thing ≡ Shape → Behind behindShape at s r → Behind (behindThing thing) at s r
+  behind-shape e b = rw e b
 
--- the block is cut off before it
-pub layout-missing : (rank : ℕ) (s : List ℤ) → length s ≤ rank → [] ≡ blockAt rank s .layout
-unfolding blockAt
-layout-missing rank s h = sym (drop-of-length-le s {i = suc rank} (omega arith))
+  pub behind-record : thing ≡ Record → Behind behindRecord at s r → Behind (behindThing thing) at s r
+  behind-record e b = rw e b
 
--- it stands behind the start and the flag
-pub layout-there : (rank : ℕ) (s : List ℤ) → take (length s - (rank + 1)) (drop (rank + 1) s) ≡ blockAt rank s .layout
-unfolding blockAt
-layout-there rank s = to-end (rank + 1) s ∙ rw add-one
+  -- a block ends where its record does, which stands behind the start and the flag
+  pub behind-block : {rank flag layout : ℕ} → thing ≡ Block rank → Behind (drop rank) at s flag → Behind (drop 1) flag s layout → Behind behindRecord layout s r →
+      Behind (behindThing thing) at s r
+  unfolding behindBlock
+  behind-block {rank} {flag} {layout} e f l b =
+      let place : drop layout s ≡ drop (suc rank) (drop at s) = l .rest ∙ rw (f .rest, drop-drop 1 rank (drop at s), add-one) in
+      rw e (record { inside = b .inside; rest = b .rest ∙ ap behindRecord place })
 
-pub ruleset layout-laws = (layout-missing, layout-there)
+pub ruleset thing-laws = (behind-shape, behind-record, behind-block)

@@ -1,11 +1,13 @@
--- Laws about records and blocks end to end.
---     Ending       where a record ends, and a block
---     Judging      what is judged of blocks
+-- Laws about things end to end.
+--     Ending       where a thing ends
 --     Entering     an array that is filled entry by entry
---     Places       where records begin
+--     Beginning    where things begin
+--     Asking       what is asked of them
+--     Common       the common shape of shapes
 --     Starts       where blocks start
 pub mod Ending
-pub mod Judging
 pub mod Entering
-pub mod Places
+pub mod Beginning
+pub mod Asking
+pub mod Common
 pub mod Starts

@@ -10,47 +10,35 @@ use lib.IntN.{ℤ, pos, negsuc}
 use lib.ListN.{length, getD, take, drop, set, replicate, length-map, length-take, List·getD-eq-default}
 use lib.Seq.{take-nil, getD-take, ext-getD}
 use Rattle.rules.specs.Lists.{all}
-use Rattle.rules.specs.Record.{natural, naturals, endToEnd, RawBlock, blockAt, behindBlock}
+use Rattle.rules.specs.Record.{natural, naturals, RawBlock, blockAt}
 use Rattle.rules.specs.Arguments.{upTo, goodEnd, goodFlag}
 use Rattle.rules.specs.Concatenate.{goodBlock}
 use Rattle.rules.proofs.Same.{both-true}
-use Rattle.records.specs.EndToEnd.{Behind}
 use Rattle.records.proofs.Sections.{other-default}
-use Rattle.records.proofs.EndToEnd.{to-end, length-end-to-end, Reached, reached-start, reached-turn, reached-here}
 use Rattle.shapes.proofs.Reading.{natural-getD}
-use Rattle.lists.specs.Starts.{blocksFrom, startsIn, StartOf, StartsOf}
-use Rattle.lists.proofs.Entering.{Entered, same-entry, entered-none, entered-more}
+use Rattle.lists.specs.Places.{standing, Inside}
+use Rattle.lists.specs.Starts.{blocksAt, startsIn, StartOf, StartsOf}
+use Rattle.lists.proofs.Entering.{Entered, same-entry, entered-none, entered-more, Filled, filled-start, filled-turn}
+use Rattle.lists.proofs.Beginning.{length-standing, lent-at, place-inside, place-fits}
 
 -- ---- one start
 
--- the first k numbers of a start stand in its array
-pub record StartTo (rank : ℕ) (s : List ℤ) (k : ℕ) (out : List ℕ) : Type 0 where
-  pub upto : k ≤ rank
-  pub few : rank ≤ 4
-  pub entered : Entered (λ j v. v ≡ natural (getD s j (pos 0))) 4 0 k out
+-- the numbers of a start stand in its array
+pub start-done : (rank : ℕ) (s : List ℤ) {k : ℕ} {out : List ℕ} → Filled (λ j. natural (getD s j (pos 0))) rank k out → rank ≤ k →
+    StartOf (naturals (blockAt rank s .start)) out
+unfolding blockAt
+start-done rank s {out = out} p h = record { size = p .entered .size; numbers = λ j. by j (ltb j rank) refl }
+  where
+    by : (j : ℕ) (t : Bool) → ltb j rank ≡ t → getD out j 0 ≡ getD (naturals (take rank s)) j 0
+    by j true e =
+        let l : j < rank = ltb-true j rank e in
+        p .entered .done j (omega arith) ∙ rw (natural-getD (take rank s) j, getD-take rank s j (pos 0) l)
+    by j false e =
+        let l : rank ≤ j = ltb-false j rank e in
+        let short : length (naturals (take rank s)) ≤ j = rw (length-map, length-take) (omega arith) in
+        p .entered .rest j (omega arith) ∙ sym (List·getD-eq-default (naturals (take rank s)) 0 short)
 
-module _ {rank : ℕ} {s : List ℤ} where
-  pub start-none : rank ≤ 4 → StartTo rank s 0 (replicate 4 0)
-  start-none h = record { upto = omega arith; few = h; entered = entered-none }
-
-  module _ {k : ℕ} {out : List ℕ} (p : StartTo rank s k out) where
-    pub start-more : {v : ℕ} → k < rank → v ≡ natural (getD s k (pos 0)) → StartTo rank s (k + 1) (set out k v)
-    start-more h e = record { upto = omega arith; few = p .few; entered = entered-more (p .entered) (omega arith) e }
-
-    pub start-done : rank ≤ k → StartOf (naturals (blockAt rank s .start)) out
-    unfolding blockAt
-    start-done h = record { size = p .entered .size; numbers = λ j. by j (ltb j rank) refl }
-      where
-        by : (j : ℕ) (t : Bool) → ltb j rank ≡ t → getD out j 0 ≡ getD (naturals (take rank s)) j 0
-        by j true e =
-            let l : j < rank = ltb-true j rank e in
-            p .entered .done j (omega arith) ∙ rw (natural-getD (take rank s) j, getD-take rank s j (pos 0) l)
-        by j false e =
-            let l : rank ≤ j = ltb-false j rank e in
-            let short : length (naturals (take rank s)) ≤ j = rw (length-map, length-take) (omega arith) in
-            p .entered .rest j (omega arith) ∙ sym (List·getD-eq-default (naturals (take rank s)) 0 short)
-
-pub ruleset start-laws = (start-none, start-more, start-done)
+pub ruleset start-laws = (filled-start, filled-turn, start-done)
 
 -- ---- all of them
 
@@ -61,11 +49,6 @@ unfolding blockAt
 starts-at rank b [] = rw take-nil
 starts-at rank zero (x ∷ l) = refl
 starts-at rank (suc b) (x ∷ l) = starts-at rank b l
-
--- behind the last block there is none
-starts-behind : (rank n b : ℕ) (s : List ℤ) → n ≤ b → getD (startsIn (blocksFrom rank n s)) b [] ≡ []
-starts-behind rank n b s h =
-    List·getD-eq-default (startsIn (blocksFrom rank n s)) [] (simp (length-map, length-end-to-end) h)
 
 -- four zeros are a start of no numbers
 no-start : StartOf [] (replicate 4 0)
@@ -86,49 +69,51 @@ starts-low (x ∷ l) e zero k =
     ends-low (x .start) (both-true (all goodEnd (x .start)) (goodFlag (x .flag)) (both-true (goodBlock x) (all goodBlock l) e .0) .0) k
 starts-low (x ∷ l) e (suc b) k = starts-low l (both-true (goodBlock x) (all goodBlock l) e .1) b k
 
--- the starts of the first b blocks are known, and the next block begins at a place
-pub record StartsTo (rank n : ℕ) (s : List ℤ) (b at : ℕ) (out : List (List ℕ)) : Type 0 where
-  pub few : n ≤ 16
+-- the starts of the first b of n blocks are known
+pub record StartsTo (rank n : ℕ) (places : List ℕ) (s : List ℤ) (b : ℕ) (out : List (List ℕ)) : Type 0 where
+  pub inside : Inside n places s
+  pub upto : b ≤ n
   pub narrow : rank ≤ 4
-  pub reached : Reached (behindBlock rank) n s b at
-  pub entered : Entered (λ j v. StartOf (getD (startsIn (blocksFrom rank n s)) j []) v) 16 (replicate 4 0) b out
+  pub entered : Entered (λ j v. StartOf (getD (startsIn (blocksAt rank n places s)) j []) v) 16 (replicate 4 0) b out
 
-module _ {rank n : ℕ} {s : List ℤ} where
-  pub starts-none : n ≤ 16 → rank ≤ 4 → StartsTo rank n s 0 0 (replicate 16 (replicate 4 0))
-  starts-none h k = record { few = h; narrow = k; reached = reached-start; entered = entered-none }
+module _ {rank n : ℕ} {places : List ℕ} {s : List ℤ} where
+  pub starts-none : Inside n places s → rank ≤ 4 → StartsTo rank n places s 0 (replicate 16 (replicate 4 0))
+  starts-none h k = record { inside = h; upto = omega arith; narrow = k; entered = entered-none }
 
-  module _ {b at : ℕ} {out : List (List ℕ)} (p : StartsTo rank n s b at out) where
-    pub starts-more : {at′ : ℕ} {v : List ℕ} → b < n → StartOf (naturals (blockAt rank (take (length s - at) (drop at s)) .start)) v →
-        Behind (behindBlock rank) at s at′ → StartsTo rank n s (b + 1) at′ (set out b v)
-    starts-more {v = v} h f k =
-        let here = reached-here (p .reached) h in
-        let right : StartOf (getD (startsIn (blocksFrom rank n s)) b []) v =
-        rw (starts-at rank b (endToEnd (behindBlock rank) n s), ← here, ← to-end at s) f in
-        record {
-          few = p .few;
-          narrow = p .narrow;
-          reached = reached-turn (p .reached) h k;
-          entered = entered-more (p .entered) (omega arith) right;
-        }
+  module _ {b : ℕ} {out : List (List ℕ)} (p : StartsTo rank n places s b out) where
+    pub starts-more : {v : List ℕ} → b < n → StartOf (naturals (blockAt rank (take (length s - getD places b 0) (drop (getD places b 0) s)) .start)) v →
+        StartsTo rank n places s (b + 1) (set out b v)
+    starts-more {v} h f = record {
+      inside = p .inside;
+      upto = omega arith;
+      narrow = p .narrow;
+      entered = entered-more (p .entered) (omega (arith, p .inside .few))
+          (rw (starts-at rank b (standing n places s), ← lent-at (p .inside) h) f);
+    }
+
+    -- behind the last block there is none
+    behind-last : (j : ℕ) → n ≤ j → getD (startsIn (blocksAt rank n places s)) j [] ≡ []
+    behind-last j h =
+        List·getD-eq-default (startsIn (blocksAt rank n places s)) [] (simp length-map (rw (length-standing (p .inside)) h))
 
     -- entry j is the start of block j, or zeros where there is no such block
-    each : n ≤ b → (j : ℕ) → j < 16 → StartOf (getD (startsIn (blocksFrom rank n s)) j []) (getD out j [])
+    each : n ≤ b → (j : ℕ) → j < 16 → StartOf (getD (startsIn (blocksAt rank n places s)) j []) (getD out j [])
     each h j l = rw (other-default out j [] (replicate 4 0) (omega arith)) (by (ltb j n) refl)
       where
-        by : (t : Bool) → ltb j n ≡ t → StartOf (getD (startsIn (blocksFrom rank n s)) j []) (getD out j (replicate 4 0))
+        by : (t : Bool) → ltb j n ≡ t → StartOf (getD (startsIn (blocksAt rank n places s)) j []) (getD out j (replicate 4 0))
         by true f = p .entered .done j (omega (arith, ltb-true j n f))
         by false f =
             let past = ltb-false j n f in
-            rw (starts-behind rank n j s past, p .entered .rest j (omega arith)) no-start
+            rw (behind-last j past, p .entered .rest j (omega arith)) no-start
 
-    pub starts-done : n ≤ b → all goodBlock (blocksFrom rank n s) ≡ true → StartsOf (startsIn (blocksFrom rank n s)) out
+    pub starts-done : n ≤ b → all goodBlock (blocksAt rank n places s) ≡ true → StartsOf (startsIn (blocksAt rank n places s)) out
     starts-done h e = record { size = p .entered .size; each = each h; low = λ j k. by j k (ltb j 16) refl }
       where
         by : (j k : ℕ) (t : Bool) → ltb j 16 ≡ t → getD (getD out j []) k 0 ≤ 65536
-        by j k true f = rw (each h j (ltb-true j 16 f) .numbers k) (starts-low (blocksFrom rank n s) e j k)
+        by j k true f = rw (each h j (ltb-true j 16 f) .numbers k) (starts-low (blocksAt rank n places s) e j k)
         by j k false f = let past = ltb-false j 16 f in rw (List·getD-eq-default out [] {n = j} (omega arith)) (omega arith)
 
-pub ruleset starts-laws = (starts-none, starts-more, starts-done)
+pub ruleset starts-laws = (starts-none, starts-more, starts-done, place-inside, place-fits)
 
 -- ---- the starts are determined
 

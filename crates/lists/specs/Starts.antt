@@ -1,15 +1,16 @@
--- Blocks end to end in a slice, and their starts by value.
+-- The starts of blocks by value.
 use mathlib.Core.Path.{_≡_}
 use mathlib.Core.List.{List, [], map}
 use Prim.Native.Nat.{ℕ, _<_, _≤_}
 use lib.IntN.{ℤ}
 use lib.ListN.{length, getD}
 use Rattle.rules.specs.Limits.{rankLimit, listLimit, productLimit}
-use Rattle.rules.specs.Record.{naturals, endToEnd, RawBlock, blockAt, behindBlock}
+use Rattle.rules.specs.Record.{naturals, RawBlock, blockAt}
+use Rattle.lists.specs.Places.{standing}
 
--- n blocks of an asked rank
-abbrev pub blocksFrom : ℕ → ℕ → List ℤ → List RawBlock
-blocksFrom rank n s = map (blockAt rank) (endToEnd (behindBlock rank) n s)
+-- the blocks of an asked rank at the first n places
+abbrev pub blocksAt : ℕ → ℕ → List ℕ → List ℤ → List RawBlock
+blocksAt rank n places s = map (blockAt rank) (standing n places s)
 
 -- their starts
 abbrev pub startsIn : List RawBlock → List (List ℕ)

@@ -1,14 +1,16 @@
-// Records and blocks end to end in a slice: what is judged of them, and where each of them begins.
-mod following; // following.rt: records
-mod blocks; // blocks.rt: blocks
+// Things end to end in a slice, shapes, records or blocks: where each of them begins, and what is asked of all of them.
+mod walking; // walking.rt: where things begin
+mod asks; // asks.rt: what each of them has to pass
+mod agreeing; // agreeing.rt: the common shape of shapes
+mod starting; // starting.rt: where blocks start
 
-pub use blocks::behind_block;
-pub use blocks::block_starts;
-pub use blocks::good_blocks;
-pub use blocks::layout_of;
-pub use blocks::over_blocks;
-pub use blocks::sound_blocks;
-pub use following::behind_record;
-pub use following::over_records;
-pub use following::record_places;
-pub use following::sound_records;
+pub use agreeing::common_shape;
+pub use agreeing::longest;
+pub use agreeing::shapes_agree;
+pub use asks::Ask;
+pub use asks::all_pass;
+pub use starting::block_starts;
+pub use walking::Thing;
+pub use walking::behind_record;
+pub use walking::moved;
+pub use walking::places;

@@ -3,7 +3,11 @@ ghost use mathlib.Core.Path.{_≡_};
 ghost use Rattle.rules.specs.Refusals.{refused, numberOf};
 ghost use Rattle.rules.specs.Endings.{testSays, TupleIs};
 ghost use Rattle.rules.specs.Shapes.{broadcastShapes, broadcastShapesCall, canBroadcastToCall};
-ghost use Rattle.shapes.specs.Judged.{AllJudged, shapesOf};
+ghost use Rattle.shapes.specs.Judged.{Judged};
+ghost use Rattle.lists.specs.Places.{EachAt};
+ghost use Rattle.lists.specs.Asked.{shapesAt};
+use lists::Ask;
+use lists::Thing;
 use rules::Number;
 use rules::Refusal;
 use rules::Test;
@@ -20,18 +24,18 @@ pub fn no_tuple(why: Refusal) -> Tuple
 }
 
 // The common shape of n shapes that were judged.
-fn common(shapes: &[i32], n: usize) -> Tuple
-    requires { ⌜ AllJudged n (now shapes) ⌝ }
-    ensures { λ r. ⌜ TupleIs (broadcastShapes (shapesOf n (now (shapes .entry)))) r ⌝ }
+fn agreed_shape(shapes: &[i32], places: [usize; 16], n: usize) -> Tuple
+    requires { ⌜ EachAt Judged n places (now shapes) ⌝ }
+    ensures { λ r. ⌜ TupleIs (broadcastShapes (shapesAt n places (now (shapes .entry)))) r ⌝ }
 {
     if n == 0 {
         return no_tuple(Refusal::ShapesDisagree);
     }
-    if !shapes::shapes_agree(shapes, n) {
+    if !lists::shapes_agree(shapes, places, n) {
         return no_tuple(Refusal::ShapesDisagree);
     }
-    let axes = shapes::longest(shapes, n);
-    let numbers = shapes::common_shape(shapes, n);
+    let axes = lists::longest(shapes, places, n);
+    let numbers = lists::common_shape(shapes, places, n);
     if !shapes::within_product(numbers) {
         return no_tuple(Refusal::MadeTooLarge);
     }
@@ -49,13 +53,14 @@ pub fn broadcast_shapes(shapes: &[i32], count: i32) -> Tuple
         return no_tuple(Refusal::OverCount);
     }
     let n = shapes::list_count(count);
-    if shapes::over_shapes(shapes, n) {
+    let places = lists::places(Thing::Shape, shapes, n);
+    if !lists::all_pass(Ask::FewAxes, shapes, places, n) {
         return no_tuple(Refusal::OverCount);
     }
-    if !shapes::good_shapes(shapes, n) {
+    if !lists::all_pass(Ask::GoodShape, shapes, places, n) {
         return no_tuple(Refusal::WrongArgument);
     }
-    common(shapes, n)
+    agreed_shape(shapes, places, n)
 }
 
 // Whether the shape `from` broadcasts to the shape `to`.

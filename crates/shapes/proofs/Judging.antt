@@ -2,17 +2,15 @@
 use mathlib.Core.Path.{_≡_, refl, sym, ap, _∙_}
 use mathlib.Core.Bool.{Bool, true, false, not}
 use mathlib.Core.List.{List, [], _∷_}
-use Prim.Native.Nat.{ℕ, suc, _+_, _-_, _*_, _<_, _≤_, _^_}
+use Prim.Native.Nat.{ℕ, suc, _+_, _-_, _*_, _<_, _≤_}
 use native.Mathlib.Nat.{mul-one, add-comm, le-trans}
 use native.Mathlib.Omega.{arith}
 use borrow.Author.Tests.{ltb-false, leb-true, not-false}
 use lib.Dec.{leb}
 use lib.IntN.{ℤ, pos, negsuc}
 use lib.ListN.{length, getD, take, drop, length-take, length-drop, List·getD-eq-default, List·getD-map}
-use lib.Seq.{getD-take, getD-drop, drop-drop, drop-length}
+use lib.Seq.{getD-take, getD-drop}
 use lib.Signed.{nonNeg}
-use mir.Syntax.{w64}
-use mir.Val.{Fits}
 use Rattle.rules.specs.declared.Entries.{Entries}
 use Rattle.rules.specs.declared.Section.{Section}
 use Rattle.rules.specs.declared.Section.the-variants.{Whole, Cut}
@@ -20,7 +18,7 @@ use Rattle.rules.specs.Limits.{productLimit}
 use Rattle.rules.specs.Lists.{if, all}
 use Rattle.rules.specs.Buffers.{part}
 use Rattle.rules.specs.Layout.{withinProduct, nonzeroProduct}
-use Rattle.rules.specs.Record.{natural, naturals, entriesFrom, sectionAt, goodExtents, goodShape, shapeIn, behindShape}
+use Rattle.rules.specs.Record.{natural, naturals, entriesFrom, sectionAt, goodExtents, goodShape, shapeIn}
 use Rattle.rules.proofs.Extents.{extent-nonzero}
 use Rattle.rules.proofs.Same.{both-true, true-not-false}
 use Rattle.cells.specs.View.{view, Low}
@@ -28,8 +26,6 @@ use Rattle.cells.proofs.View.{view-part}
 use Rattle.tables.specs.Rows.{rowAt}
 use Rattle.axes.specs.Extents.{Extents}
 use Rattle.records.specs.Sections.{Laid, SectionIn}
-use Rattle.records.specs.EndToEnd.{Behind}
-use Rattle.records.proofs.EndToEnd.{to-end}
 use Rattle.records.proofs.InTurn.{first-fails, first-holds}
 use Rattle.records.proofs.Naturals.{naturals-part}
 use Rattle.records.proofs.Sections.{other-default}
@@ -157,28 +153,3 @@ module _ (s : List ℤ) {g : Section} (is : g ≡ sectionAt 0 1 s) where
           rw (← is, f, first-holds (d ∙ front-natural s e laid) k, laid .count, seen) h
 
 pub ruleset good-laws = (good-cut, extents-end, extents-room, good-negative, good-product)
-
--- ---- what stands behind it
-
-module _ (at : ℕ) (s : List ℤ) {g : Section} (is : g ≡ sectionAt 0 1 (take (length s - at) (drop at s))) (h : at ≤ length s) where
-  shown : g ≡ sectionAt 0 1 (drop at s)
-  shown = is ∙ ap (sectionAt 0 1) (to-end at s)
-
-  room : {e : Entries} → SectionIn 0 1 (take (length s - at) (drop at s)) g → g ≡ Whole e → at + e .next ≤ length s
-  room {e} lies f =
-      let l : Laid 0 1 (take (length s - at) (drop at s)) e = (rw f at lies) .0 in
-      let r : e .next ≤ length s - at = rw (to-end, length-drop) at (l .room) in
-      omega arith
-
-  pub behind-fits : {e : Entries} → SectionIn 0 1 (take (length s - at) (drop at s)) g → g ≡ Whole e → length s < 2 ^ 64 → Fits w64 (at + e .next)
-  behind-fits lies f k = record { fits = let r = room lies f in omega arith }
-
-  pub behind-whole : {e : Entries} → SectionIn 0 1 (take (length s - at) (drop at s)) g → g ≡ Whole e → Behind behindShape at s (at + e .next)
-  unfolding behindShape
-  behind-whole {e} lies f = record { inside = room lies f; rest = rw (← shown, f) (sym (drop-drop (e .next) at s)) }
-
-  pub behind-cut : g ≡ Cut → Behind behindShape at s (length s)
-  unfolding behindShape
-  behind-cut f = record { inside = omega arith; rest = rw (← shown, f) (drop-length s) }
-
-pub ruleset behind-laws = (behind-fits, behind-whole, behind-cut)

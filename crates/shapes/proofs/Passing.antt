@@ -1,42 +1,15 @@
--- Loops over the numbers below n, and over numbers among which a zero is looked for. Assumes nothing.
-use mathlib.Core.Path.{_≡_, refl, sym, ap, _∙_}
-use mathlib.Core.Bool.{Bool, true, false, _||_}
+-- Numbers among which a zero is looked for. Assumes nothing.
+use mathlib.Core.Path.{_≡_, refl, sym, _∙_}
+use mathlib.Core.Bool.{true, false, _||_}
 use mathlib.Core.List.{List}
 use Prim.Native.Nat.{ℕ, _+_, _<_, _≤_}
-use native.Mathlib.Nat.{zero-add}
 use native.Mathlib.Numerals.{add-one}
 use native.Mathlib.Omega.{arith}
-use borrow.Author.Tests.{not-true, not-false, eq-eqb, ne-eqb}
+use borrow.Author.Tests.{eq-eqb, ne-eqb}
 use lib.Dec.{eqb}
 use lib.ListN.{length, getD, drop, drop-of-length-le}
 use lib.Seq.{drop-cons}
-use Rattle.rules.specs.Lists.{all, any, below}
-use Rattle.rules.proofs.Ranges.{from-length, from-at}
-use Rattle.tables.proofs.Passing.{Passed, none-passed, one-more, one-fails, all-passed}
-
--- ---- the numbers below n
-
-module _ {test : ℕ → Bool} {n : ℕ} where
-  -- none has been put to the test
-  pub below-start : Passed test n 0 (below n)
-  below-start = none-passed (from-length 0 n)
-
-  module _ {k : ℕ} {b : Bool} (p : Passed test n k (below n)) (h : k < n) (e : b ≡ test k) where
-    -- number k is k
-    tested : b ≡ test (getD (below n) k 0)
-    tested = e ∙ ap test (sym (from-at 0 n k 0 h ∙ zero-add k))
-
-    -- it passes
-    pub below-turn : b ≡ true → Passed test n (k + 1) (below n)
-    below-turn f = one-more p 0 h tested f
-
-    -- it does not pass
-    pub below-stop : b ≡ false → false ≡ all test (below n)
-    below-stop f = one-fails p 0 h tested f
-
-pub ruleset below-laws = (below-start, below-turn, below-stop, all-passed, not-true, not-false)
-
--- ---- a zero among numbers
+use Rattle.rules.specs.Lists.{any}
 
 -- none of the first k of n numbers is
 pub record NoZero (n k : ℕ) (l : List ℕ) : Type 0 where

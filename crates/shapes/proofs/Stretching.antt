@@ -14,7 +14,6 @@ use Rattle.rules.specs.Shapes.{extents, commonExtent, axisAgrees, shapesAgree, 
 use Rattle.rules.proofs.Ranges.{from-length}
 use Rattle.rules.proofs.Same.{same-true}
 use Rattle.shapes.specs.Judged.{axisStretches}
-use Rattle.shapes.proofs.Common.{larger-zero}
 
 -- ---- one axis
 
@@ -51,6 +50,10 @@ and-exchange true p false q = and-false p
 and-exchange false p b q = refl
 
 -- ---- the two shapes on one axis
+
+-- no number is below 0
+pub larger-zero : (x : ℕ) → larger x 0 ≡ x
+larger-zero x = rw (le-ltb x 0 (omega arith))
 
 -- both extents agree with the larger one, and that is the first
 axis-both : (t f : ℕ) →

@@ -1,32 +1,19 @@
 -- What is known of shapes once they were judged, and the words that the contracts are written in.
 use mathlib.Core.Path.{_≡_}
 use mathlib.Core.Bool.{Bool, true, false, _&&_, _||_}
-use mathlib.Core.List.{List, map}
+use mathlib.Core.List.{List}
 use Prim.Native.Nat.{ℕ}
 use lib.Dec.{eqb, leb}
 use lib.IntN.{ℤ}
 use lib.ListN.{length}
 use Rattle.rules.specs.Limits.{rankLimit}
-use Rattle.rules.specs.Lists.{all, any}
-use Rattle.rules.specs.Record.{endToEnd, behindShape, shapeIn, goodShape}
+use Rattle.rules.specs.Record.{goodShape}
 use Rattle.rules.specs.Arguments.{overShape, goodComponents}
 
 -- a shape that was not refused
 pub record Judged (s : List ℤ) : Type 0 where
   pub small : overShape s ≡ false
   pub good : goodShape s ≡ true
-
--- the slices at which n shapes begin, and the shapes
-abbrev pub shapesFrom : ℕ → List ℤ → List (List ℤ)
-shapesFrom n s = endToEnd behindShape n s
-
-abbrev pub shapesOf : ℕ → List ℤ → List (List ℕ)
-shapesOf n s = map shapeIn (shapesFrom n s)
-
--- n shapes of which none was refused
-pub record AllJudged (n : ℕ) (s : List ℤ) : Type 0 where
-  pub small : any overShape (shapesFrom n s) ≡ false
-  pub good : all goodShape (shapesFrom n s) ≡ true
 
 -- an axis stretches from extent 1 to any but 0, and from each extent to itself
 abbrev pub axisStretches : ℕ → ℕ → Bool

@@ -5,11 +5,10 @@ ghost use lib.Dec.{eqb};
 ghost use lib.ListN.{length, getD};
 ghost use Rattle.rules.specs.Lists.{any};
 ghost use Rattle.rules.specs.Layout.{withinProduct};
-ghost use Rattle.rules.specs.Record.{behindShape, shapeIn, goodShape};
+ghost use Rattle.rules.specs.Record.{shapeIn, goodShape};
 ghost use Rattle.rules.specs.Arguments.{overShape};
 ghost use Rattle.rules.specs.Shapes.{canBroadcastTo};
 ghost use Rattle.cells.specs.View.{Low};
-ghost use Rattle.records.specs.EndToEnd.{Behind};
 ghost use Rattle.shapes.specs.Judged.{Judged, axisStretches};
 use super::numbers::natural_at;
 use rules::Section;
@@ -47,17 +46,6 @@ pub fn good_shape(s: &[i32]) -> bool
             axes::within_product(s, 1, extents.count)
         }
         Section::Cut => false,
-    }
-}
-
-// Where the shape that begins at a place ends; one that cannot be walked takes the rest.
-pub fn behind_shape(s: &[i32], at: usize) -> usize
-    requires { ⌜ at ≤ length (now s) ⌝ }
-    ensures { λ r. ⌜ Behind behindShape at (now (s .entry)) r ⌝ }
-{
-    match records::section_at(&s[at..], 0, 1) {
-        Section::Whole(extents) => at + extents.next,
-        Section::Cut => s.len(),
     }
 }
 

@@ -1,6 +1,5 @@
 -- `broadcast_shapes`: by the first reason that holds.
-use mathlib.Core.Path.{_≡_}
-use mathlib.Core.Path.{ap, _∙_}
+use mathlib.Core.Path.{_≡_, ap, _∙_}
 use denote.Ref.{now}
 use mir.Syntax.{w32}
 use mir.ValLaws.{toZ-ofZ}
@@ -9,10 +8,11 @@ use Rattle.rules.specs.Arguments.{overCount}
 use Rattle.rules.specs.Record.{listCount}
 use Rattle.rules.specs.Refusals.{numberOf}
 use Rattle.rules.specs.Shapes.{broadcastShapesCall}
-use Rattle.shapes.specs.Judged.{AllJudged}
-use Rattle.judging.proofs.Judged.{judged, told-true, told-false, told-not-true}
-use Rattle.shape_calls.proofs.Listed.{by-count}
-use Rattle.judging.proofs.Required.{shapes-judged}
+use Rattle.shapes.specs.Judged.{Judged}
+use Rattle.lists.specs.Places.{EachAt}
+use Rattle.lists.proofs.Common.{judged-each}
+use Rattle.judging.proofs.Judged.{judged, told-true, told-false, told-not-true, told-not-false}
+use Rattle.shape_calls.proofs.Listed.{by-count, few-listed, over-listed}
 use Rattle.shape_calls.proofs.Tuples.{tuple-same}
 use Rattle.shape_calls.proofs.common_shape.broadcast_shapes.Statement.{statement}
 use Rattle.shape_calls.proofs.common_shape.broadcast_shapes.Tie as tie
@@ -25,8 +25,14 @@ listed : (c : tie.After-list-count) → c .list-count .result ≡ listCount (c .
 listed c = c .list-count .ensures ∙ ap listCount (toZ-ofZ w32 _ (c .before .before .before .fits .count))
 
 -- and the shapes
-shapes : (c : tie.Else3) → AllJudged (c .before .before .before .before .list-count .result) (now (c .before .before .before .before .before .before .before .args .shapes))
-shapes c = let few = c .before .before in shapes-judged _ _ (few .before .over-shapes .ensures) (few .if2 .left) (c .before .good-shapes .ensures) (c .if3 .left)
+shapes : (c : tie.Else3) →
+    EachAt Judged (c .before .before .before .before .before .list-count .result) (c .before .before .before .before .places .result)
+    (now (c .before .before .before .before .before .before .before .before .args .shapes))
+shapes c =
+    let second = c .before .before in
+    judged-each (second .before .before .places .ensures .inside)
+    (told-not-false _ (second .before .all-pass .ensures) (second .if2 .left))
+    (told-not-false _ (c .before .all-pass2 .ensures) (c .if3 .left))
 
 over-count-requires : tie.Need-over-count-requires
 over-count-requires c κs = search needs
@@ -43,8 +49,11 @@ returns c =
 list-count-requires : tie.Need-list-count-requires
 list-count-requires c κs = search needs
 
-over-shapes-requires : tie.Need-over-shapes-requires
-over-shapes-requires c κs = search needs
+places-requires : tie.Need-places-requires
+places-requires c κs = few-listed _ (listed c)
+
+all-pass-requires : tie.Need-all-pass-requires
+all-pass-requires c κs = record { inside = c .places .ensures .inside; known = λ i h. tt }
 
 no-tuple-requires-2 : tie.Need-no-tuple-requires-2
 no-tuple-requires-2 c κs = search needs
@@ -52,14 +61,14 @@ no-tuple-requires-2 c κs = search needs
 returns-2 : tie.Need-returns-2
 unfolding numberOf
 returns-2 c =
-    let counted = c .before .before .before in
-    let first = counted .before in
+    let placed = c .before .before .before in
+    let first = placed .before .before in
     let few = told-false (overCount (first .before .before .args .count)) (over (first .before)) (first .if1 .left) in
-    let long = told-true _ (c .before .before .over-shapes .ensures) (c .before .if2 .taken) in
-    tuple-same (c .no-tuple2 .ensures) (by-count _ _ (listed counted) (search judged))
+    let long = over-listed (placed .places .ensures .inside) (c .before .before .all-pass .ensures) (c .before .if2 .taken) in
+    tuple-same (c .no-tuple2 .ensures) (by-count _ _ _ (listed (placed .before)) (placed .places .ensures .begin) (search judged))
 
-good-shapes-requires : tie.Need-good-shapes-requires
-good-shapes-requires c κs = search needs
+all-pass-requires-2 : tie.Need-all-pass-requires-2
+all-pass-requires-2 c κs = record { inside = c .before .before .places .ensures .inside; known = λ i h. tt }
 
 no-tuple-requires-3 : tie.Need-no-tuple-requires-3
 no-tuple-requires-3 c κs = search needs
@@ -68,25 +77,26 @@ returns-3 : tie.Need-returns-3
 unfolding numberOf
 returns-3 c =
     let second = c .before .before .before in
-    let counted = second .before .before in
-    let first = counted .before in
+    let placed = second .before .before in
+    let first = placed .before .before in
     let few = told-false (overCount (first .before .before .args .count)) (over (first .before)) (first .if1 .left) in
-    let short = told-false _ (second .before .over-shapes .ensures) (second .if2 .left) in
-    let wrong = told-not-true _ (c .before .before .good-shapes .ensures) (c .before .if3 .taken) in
-    tuple-same (c .no-tuple3 .ensures) (by-count _ _ (listed counted) (search judged))
+    let short = over-listed (placed .places .ensures .inside) (second .before .all-pass .ensures) (second .if2 .left) in
+    let wrong = told-not-true _ (c .before .before .all-pass2 .ensures) (c .before .if3 .taken) in
+    tuple-same (c .no-tuple3 .ensures) (by-count _ _ _ (listed (placed .before)) (placed .places .ensures .begin) (search judged))
 
-common-requires : tie.Need-common-requires
-common-requires c κs = shapes c
+agreed-shape-requires : tie.Need-agreed-shape-requires
+agreed-shape-requires c κs = shapes c
 
 returns-4 : tie.Need-returns-4
 returns-4 c =
-    let s = shapes (c .before) in
-    let counted = c .before .before .before .before .before in
-    let first = counted .before in
+    let third = c .before in
+    let second = third .before .before in
+    let placed = second .before .before in
+    let first = placed .before .before in
     let few = told-false (overCount (first .before .before .args .count)) (over (first .before)) (first .if1 .left) in
-    let short = s .small in
-    let good = s .good in
-    tuple-same (c .common .ensures) (by-count _ _ (listed counted) (search judged))
+    let short = over-listed (placed .places .ensures .inside) (second .before .all-pass .ensures) (second .if2 .left) in
+    let good = told-not-false _ (third .before .all-pass2 .ensures) (third .if3 .left) in
+    tuple-same (c .agreed-shape .ensures) (by-count _ _ _ (listed (placed .before)) (placed .places .ensures .begin) (search judged))
 
 pub broadcast-shapes-spec : {M : Type 1} → statement M
 broadcast-shapes-spec =
@@ -96,11 +106,12 @@ broadcast-shapes-spec =
     no-tuple-requires
     returns
     list-count-requires
-    over-shapes-requires
+    places-requires
+    all-pass-requires
     no-tuple-requires-2
     returns-2
-    good-shapes-requires
+    all-pass-requires-2
     no-tuple-requires-3
     returns-3
-    common-requires
+    agreed-shape-requires
     returns-4)
