@@ -56,6 +56,12 @@ fn answer(
             work,
             out,
         ),
+        25 => ended(
+            layout::permute(first, second, result, work),
+            result,
+            work,
+            out,
+        ),
         _ => replies::word(b"unknown", out, 0),
     }
 }

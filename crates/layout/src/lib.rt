@@ -19,6 +19,7 @@ pub use records::row;
 pub use records::sound;
 pub use refusals::number_of;
 pub use reshape_calls::contract_last_axis;
+pub use reshape_calls::permute;
 pub use shape_calls::broadcast_shapes;
 pub use shape_calls::can_broadcast_to;
 pub use shape_calls::cmp_index;
