@@ -28,42 +28,17 @@ fn answer(
     let second = list(request, at[1]);
     requests::fill(result);
     requests::fill(work);
-    match number(request, 0) {
-        19 => ended(
-            layout::broadcast_to_shape(first, second, result, work),
-            result,
-            work,
-            out,
-        ),
-        20 => {
-            let rank = number(request, at[1]);
-            ended(
-                layout::broadcast_to_rank(first, rank, result, work),
-                result,
-                work,
-                out,
-            )
+    let written = match number(request, 0) {
+        19 => layout::broadcast_to_shape(first, second, result, work),
+        20 => layout::broadcast_to_rank(first, number(request, at[1]), result, work),
+        22 => layout::union(first, second, result, work),
+        24 => layout::contract_last_axis(first, result, work),
+        25 => layout::permute(first, second, result, work),
+        _ => {
+            return replies::word(b"unknown", out, 0);
         }
-        22 => ended(
-            layout::union(first, second, result, work),
-            result,
-            work,
-            out,
-        ),
-        24 => ended(
-            layout::contract_last_axis(first, result, work),
-            result,
-            work,
-            out,
-        ),
-        25 => ended(
-            layout::permute(first, second, result, work),
-            result,
-            work,
-            out,
-        ),
-        _ => replies::word(b"unknown", out, 0),
-    }
+    };
+    ended(written, result, work, out)
 }
 
 // What a call wrote, and whether it left the buffers well.
