@@ -16,7 +16,7 @@ pub fn lend(
     answer(request, at, &mut result[0..n], &mut work[0..m], out)
 }
 
-// The answer to a request whose arguments stand at the places; unknown if the operation is not there yet.
+// The answer to a request whose arguments stand at the places.
 fn answer(
     request: &[i32],
     at: [usize; 7],
@@ -28,17 +28,54 @@ fn answer(
     let second = list(request, at[1]);
     requests::fill(result);
     requests::fill(work);
-    let written = match number(request, 0) {
-        19 => layout::broadcast_to_shape(first, second, result, work),
-        20 => layout::broadcast_to_rank(first, number(request, at[1]), result, work),
-        22 => layout::union(first, second, result, work),
-        24 => layout::contract_last_axis(first, result, work),
-        25 => layout::permute(first, second, result, work),
-        _ => {
-            return replies::word(b"unknown", out, 0);
-        }
-    };
-    ended(written, result, work, out)
+    match number(request, 0) {
+        19 => ended(
+            layout::broadcast_to_shape(first, second, result, work),
+            result,
+            work,
+            out,
+        ),
+        22 => ended(
+            layout::union(first, second, result, work),
+            result,
+            work,
+            out,
+        ),
+        25 => ended(
+            layout::permute(first, second, result, work),
+            result,
+            work,
+            out,
+        ),
+        _ => of_one(request, at, result, work, out),
+    }
+}
+
+// The same where one slice is all that a call takes but for numbers; unknown if the operation is not there yet.
+fn of_one(
+    request: &[i32],
+    at: [usize; 7],
+    result: &mut [i32],
+    work: &mut [i32],
+    out: &mut [u8],
+) -> usize {
+    let first = list(request, at[0]);
+    let asked = number(request, at[1]);
+    match number(request, 0) {
+        20 => ended(
+            layout::broadcast_to_rank(first, asked, result, work),
+            result,
+            work,
+            out,
+        ),
+        24 => ended(
+            layout::contract_last_axis(first, result, work),
+            result,
+            work,
+            out,
+        ),
+        _ => replies::word(b"unknown", out, 0),
+    }
 }
 
 // What a call wrote, and whether it left the buffers well.
