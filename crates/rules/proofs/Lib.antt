@@ -65,6 +65,7 @@ pub mod ToRank
 pub mod Given
 pub mod StretchedHolds
 pub mod Full
+pub mod IntersectHolds
 pub mod ContractedHolds
 pub mod PermutedHolds
 pub mod Determined
