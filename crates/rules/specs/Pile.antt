@@ -7,12 +7,12 @@ use lib.IntN.{ℤ, pos, negsuc}
 use lib.ListN.{length, getD, set}
 use lib.Dec.{eqb, ltb}
 use Rattle.rules.specs.Limits.{resultSize, workSize}
-use Rattle.rules.specs.Lists.{none, keep, sum, same}
+use Rattle.rules.specs.Lists.{all, none, keep, below, sum, same}
 use Rattle.rules.specs.Buffers.{part, put}
 use Rattle.rules.specs.RowsInOrder.{increasing}
 use Rattle.rules.specs.Refusals.{Verdict, given, refused, _then_, _when_, lowest}
 use Rattle.rules.specs.Layout.{Layout, isDense, isSparse, soundLayout, encode}
-use Rattle.rules.specs.Record.{natural, nowhere}
+use Rattle.rules.specs.Record.{natural, layoutIn, nowhere, sound}
 use Rattle.rules.specs.Arguments.{shortWork}
 use Rattle.rules.specs.Endings.{Lookup, found, nothing}
 use Rattle.rules.specs.Lookup.{lookup}
@@ -105,6 +105,14 @@ slotCount pile = length pile / resultSize
 abbrev pub slotAt : List ℤ → ℕ → List ℤ
 slotAt pile i = part (i * resultSize) resultSize pile
 
+-- each slot has a sound record
+abbrev pub soundSlots : List ℤ → Bool
+soundSlots pile = all (λ i. sound (slotAt pile i)) (below (slotCount pile))
+
+-- the layouts of the records in the slots
+abbrev pub layoutsIn : List ℤ → List Layout
+layoutsIn pile = map (λ i. layoutIn (slotAt pile i)) (below (slotCount pile))
+
 -- one exchange: 2, then 5, then as the two calls refuse; the new numbers of the whole pile
 unfoldable pub exchangeCall : List ℤ → ℤ → ℤ → ℕ → Verdict (List ℤ)
 exchangeCall pile first second work =
@@ -136,3 +144,9 @@ unfoldable pub exchangeAllCall : List ℤ → List ℤ → ℕ → Verdict Excha
 exchangeAllCall pile pairs work =
     lowest (2 when shortWork work ∷ 5 when eqb (length pairs % 2) 1 ∷ []) then λ _.
     given (exchangesFrom (record { made = 0; pile = pile }) pairs)
+
+-- the exchanges that such a list asks for
+unfoldable pub exchangesIn : List ℤ → List Exchange
+exchangesIn [] = []
+exchangesIn (first ∷ []) = []
+exchangesIn (first ∷ second ∷ pairs) = record { first = first; second = second } ∷ exchangesIn pairs

@@ -1,0 +1,82 @@
+-- What calls answer of sound records, where nothing is wrong with their arguments. Assumes nothing.
+use mathlib.Core.Path.{_≡_, refl, sym, _∙_}
+use mathlib.Core.Bool.{true, false, not, _&&_}
+use mathlib.Core.List.{List, [], _∷_, _++_}
+use Prim.Native.Nat.{ℕ}
+use borrow.Author.Tests.{le-ltb}
+use lib.IntN.{ℤ, pos}
+use lib.ListN.{getD}
+use Rattle.rules.specs.Limits.{rankLimit, resultSize, workSize}
+use Rattle.rules.specs.Refusals.{given, _then_, _when_, lowest}
+use Rattle.rules.specs.Layout.{Layout, rank, encode}
+use Rattle.rules.specs.Record.{natural, naturals, layoutIn, sound, ordered, behindRecord}
+use Rattle.rules.specs.Arguments.{goodIndex, overRecord, shortWork}
+use Rattle.rules.specs.Lookup.{lookup, findNnzIndexCall}
+use Rattle.rules.specs.CountsAndForms.{nnz, nnzCall}
+use Rattle.rules.specs.Union.{union, unionCall}
+use Rattle.rules.specs.Intersect.{intersect, intersectCall}
+use Rattle.rules.specs.Pile.{unionOf, intersectionOf}
+use Rattle.rules.proofs.Encoded.{layout-alone, sound-alone}
+use Rattle.rules.proofs.ReadBack.{layout-sound, record-and-rest}
+
+-- the count of extents stands third in a record
+rank-stands : (l : Layout) (rest : List ℤ) → natural (getD (encode l ++ rest) 2 (pos 0)) ≡ rank l
+unfolding encode natural
+rank-stands l rest = refl
+
+-- ---- one sound record
+
+module _ (s : List ℤ) (e : sound s ≡ true) where
+  -- its count of extents is the rank of its layout
+  rank-third : natural (getD s 2 (pos 0)) ≡ rank (layoutIn s)
+  rank-third = rw (record-and-rest s e) at (rank-stands (layoutIn s) (behindRecord s))
+
+  -- it is at most 4
+  within-rank : overRecord s ≡ false
+  within-rank = rw rank-third (le-ltb rankLimit (rank (layoutIn s)) (layout-sound s e .form .rank-most))
+
+  -- `nnz`
+  pub nnz-call : nnzCall s ≡ given (nnz (layoutIn s))
+  unfolding nnzCall lowest
+  nnz-call = rw (within-rank, e)
+
+  -- lookup of an index of R components, each at most 65,535
+  pub lookup-call : ordered s ≡ true → (index : List ℤ) → goodIndex index (rank (layoutIn s)) ≡ true → findNnzIndexCall s index ≡ given (lookup (layoutIn s) (naturals index))
+  unfolding findNnzIndexCall lowest
+  lookup-call o index g = rw (within-rank, e, o, rank-third, g)
+
+-- ---- two sound records, with a result of full size
+
+module _ (s t : List ℤ) (work : ℕ) (e : sound s ≡ true) (f : sound t ≡ true) (w : shortWork work ≡ false) where
+  -- `union`
+  pub union-call : unionCall s t resultSize work ≡ union (layoutIn s) (layoutIn t)
+  unfolding unionCall lowest
+  union-call = rw (within-rank s e, within-rank t f, w, e, f)
+
+  -- `intersect`, unless a record is not ordered
+  pub intersect-call : intersectCall s t resultSize work ≡ (lowest (4 when not (ordered s && ordered t) ∷ []) then λ _. intersect (layoutIn s) (layoutIn t))
+  unfolding intersectCall lowest
+  intersect-call = rw (within-rank s e, within-rank t f, w, e, f)
+
+-- ---- the record of a layout instead of another that is read so
+
+-- it is as ordered
+encode-ordered : (s : List ℤ) → sound s ≡ true → ordered (encode (layoutIn s)) ≡ ordered s
+unfolding ordered
+encode-ordered s e = let l = layout-sound s e in rw (sound-alone l, layout-alone l, e)
+
+module _ (s t : List ℤ) (work : ℕ) (e : sound s ≡ true) (f : sound t ≡ true) (w : shortWork work ≡ false) where
+  -- the same union
+  pub union-read : unionCall s t resultSize work ≡ unionOf (layoutIn s) (layoutIn t)
+  union-read =
+      let a = layout-sound s e in
+      let b = layout-sound t f in
+      union-call s t work e f w ∙ sym (union-call (encode (layoutIn s)) (encode (layoutIn t)) workSize (sound-alone a) (sound-alone b) refl ∙ (rw (layout-alone a, layout-alone b)))
+
+  -- the same intersection
+  pub intersect-read : intersectCall s t resultSize work ≡ intersectionOf (layoutIn s) (layoutIn t)
+  intersect-read =
+      let a = layout-sound s e in
+      let b = layout-sound t f in
+      intersect-call s t work e f w
+      ∙ sym (intersect-call (encode (layoutIn s)) (encode (layoutIn t)) workSize (sound-alone a) (sound-alone b) refl ∙ (rw (layout-alone a, layout-alone b, encode-ordered s e, encode-ordered t f)))
