@@ -9,6 +9,7 @@ use lib.ListN.{getD}
 use Rattle.rules.specs.Limits.{rankLimit, resultSize, workSize}
 use Rattle.rules.specs.Refusals.{given, _then_, _when_, lowest}
 use Rattle.rules.specs.Layout.{Layout, rank, encode}
+use Rattle.rules.specs.Soundness.{Sound}
 use Rattle.rules.specs.Record.{natural, naturals, layoutIn, sound, ordered, behindRecord}
 use Rattle.rules.specs.Arguments.{goodIndex, overRecord, shortWork}
 use Rattle.rules.specs.Lookup.{lookup, findNnzIndexCall}
@@ -18,11 +19,27 @@ use Rattle.rules.specs.Intersect.{intersect, intersectCall}
 use Rattle.rules.specs.Pile.{unionOf, intersectionOf}
 use Rattle.rules.proofs.Encoded.{layout-alone, sound-alone}
 use Rattle.rules.proofs.ReadBack.{layout-sound, record-and-rest}
+use Rattle.rules.proofs.Unions.{union-sound}
+use Rattle.rules.proofs.Given.{step-given}
+use Rattle.rules.proofs.IntersectHolds.{intersect-sound}
 
 -- the count of extents stands third in a record
 rank-stands : (l : Layout) (rest : List ℤ) → natural (getD (encode l ++ rest) 2 (pos 0)) ≡ rank l
 unfolding encode natural
 rank-stands l rest = refl
+
+-- ---- any slices
+
+module _ (s t : List ℤ) (result work : ℕ) {l : Layout} where
+  -- a union that is given is sound
+  pub union-call-sound : unionCall s t result work ≡ given l → Sound l
+  unfolding unionCall
+  union-call-sound e = union-sound (layoutIn s) (layoutIn t) (step-given _ _ e)
+
+  -- and so is an intersection
+  pub intersect-call-sound : intersectCall s t result work ≡ given l → Sound l
+  unfolding intersectCall
+  intersect-call-sound e = intersect-sound (layoutIn s) (layoutIn t) (step-given _ _ e)
 
 -- ---- one sound record
 

@@ -15,7 +15,9 @@
 --     PermutedHolds                                                what is held then
 --     Calls                                                        what calls answer of sound records
 --     Piled, PiledPairs, Summing, ExchangeMade, ExchangeKeeps,
---     Piles                                                        the pile: exchanges keep its counts
+--     Piles                                                        the pile: any exchanges keep its counts
+--     Slots, PileRecords, RecordPiles                              the same of records in the slots of a slice
+--     PileByHand                                                   a pile exchanged by hand
 --     Determined                                                   two outcomes that a contract allows are equal
 --     WorkedByHand, Examples                                       the table, and examples of every operation
 --     Refusing, RefusedWith, Never14                               which numbers are given, and that 14 never is
@@ -77,6 +79,10 @@ pub mod Summing
 pub mod ExchangeMade
 pub mod ExchangeKeeps
 pub mod Piles
+pub mod Slots
+pub mod PileRecords
+pub mod RecordPiles
+pub mod PileByHand
 pub mod ContractedHolds
 pub mod PermutedHolds
 pub mod Determined

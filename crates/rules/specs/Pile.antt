@@ -2,7 +2,7 @@
 -- same on a slice of records.
 use mathlib.Core.Bool.{Bool, true, false, not, _&&_, _||_}
 use mathlib.Core.List.{List, [], _∷_, map}
-use Prim.Native.Nat.{ℕ, suc, _*_, _/_, _%_}
+use Prim.Native.Nat.{ℕ, suc, _+_, _*_, _/_, _%_}
 use lib.IntN.{ℤ, pos, negsuc}
 use lib.ListN.{length, getD, set}
 use lib.Dec.{eqb, ltb}
@@ -77,6 +77,18 @@ pub record Exchange : Type 0 where
 unfoldable pub exchanged : List Exchange → List Layout → List Layout
 exchanged [] pile = pile
 exchanged (x ∷ rest) pile = exchanged rest (givenOr pile (exchange (x .first) (x .second) pile))
+
+-- one where it is given, none where it is refused
+abbrev pub oneIfGiven : {A : Type 0} → Verdict A → ℕ
+oneIfGiven (given new) = 1
+oneIfGiven (refused n) = 0
+
+-- how many of them are made
+unfoldable pub exchangesMade : List Exchange → List Layout → ℕ
+exchangesMade [] pile = 0
+exchangesMade (x ∷ rest) pile =
+    let v : Verdict (List Layout) = exchange (x .first) (x .second) pile in
+    oneIfGiven v + exchangesMade rest (givenOr pile v)
 
 -- ---- what is counted
 
