@@ -1,25 +1,33 @@
 -- What calls answer of sound records, where nothing is wrong with their arguments. Assumes nothing.
 use mathlib.Core.Path.{_≡_, refl, sym, _∙_}
 use mathlib.Core.Bool.{true, false, not, _&&_}
-use mathlib.Core.List.{List, [], _∷_, _++_}
-use Prim.Native.Nat.{ℕ}
-use borrow.Author.Tests.{le-ltb}
+use mathlib.Core.List.{List, [], _∷_, _++_, map}
+use Prim.Native.Nat.{ℕ, suc, _≤_, _<_}
+use native.Mathlib.Omega.{arith}
+use borrow.Author.Tests.{le-leb, le-ltb, eq-eqb}
 use lib.IntN.{ℤ, pos}
-use lib.ListN.{getD}
-use Rattle.rules.specs.Limits.{rankLimit, resultSize, workSize}
+use lib.ListN.{length, getD, length-map}
+use Rattle.rules.specs.Limits.{rankLimit, componentLimit, resultSize, workSize}
+use Rattle.rules.specs.Lists.{all}
+use Rattle.rules.specs.RowsInOrder.{increasing}
 use Rattle.rules.specs.Refusals.{given, _then_, _when_, lowest}
 use Rattle.rules.specs.Layout.{Layout, rank, encode}
 use Rattle.rules.specs.Soundness.{Sound}
 use Rattle.rules.specs.Record.{natural, naturals, layoutIn, sound, ordered, behindRecord}
-use Rattle.rules.specs.Arguments.{goodIndex, overRecord, shortWork}
+use Rattle.rules.specs.Arguments.{upTo, goodComponents, goodIndex, overRecord, shortWork}
 use Rattle.rules.specs.Lookup.{lookup, findNnzIndexCall}
 use Rattle.rules.specs.CountsAndForms.{nnz, nnzCall}
 use Rattle.rules.specs.Union.{union, unionCall}
 use Rattle.rules.specs.Intersect.{intersect, intersectCall}
 use Rattle.rules.specs.Pile.{unionOf, intersectionOf}
+use Rattle.rules.proofs.Tests.{true-both}
+use Rattle.rules.proofs.Extents.{extent-limited}
+use Rattle.rules.proofs.Sections.{naturals-pos}
 use Rattle.rules.proofs.Encoded.{layout-alone, sound-alone}
 use Rattle.rules.proofs.ReadBack.{layout-sound, record-and-rest}
+use Rattle.rules.proofs.Holding.{Position}
 use Rattle.rules.proofs.Unions.{union-sound}
+use Rattle.rules.proofs.Low.{below-at}
 use Rattle.rules.proofs.Given.{step-given}
 use Rattle.rules.proofs.IntersectHolds.{intersect-sound}
 
@@ -61,6 +69,26 @@ module _ (s : List ℤ) (e : sound s ≡ true) where
   pub lookup-call : ordered s ≡ true → (index : List ℤ) → goodIndex index (rank (layoutIn s)) ≡ true → findNnzIndexCall s index ≡ given (lookup (layoutIn s) (naturals index))
   unfolding findNnzIndexCall lowest
   lookup-call o index g = rw (within-rank, e, o, rank-third, g)
+
+-- numbers up to a limit
+all-up-to : (limit : ℕ) (q : List ℕ) → ((k : ℕ) → k < length q → getD q k 0 ≤ limit) → all (upTo limit) (map pos q) ≡ true
+unfolding all upTo
+all-up-to limit [] f = refl
+all-up-to limit (c ∷ q) f = true-both (le-leb c limit (f 0 (omega arith))) (all-up-to limit q (λ k h. f (suc k) (omega arith)))
+
+-- a position of the shape is an index that lookup takes
+position-good : (l : Layout) → Sound l → (q : List ℕ) → Position (l .shape) q → goodIndex (map pos q) (rank l) ≡ true
+unfolding goodComponents
+position-good l s q p =
+    true-both (eq-eqb (length (map pos q)) (rank l) (length-map q pos ∙ p .size))
+    (all-up-to componentLimit q (λ k h. omega (arith, below-at q (l .shape) (p .inside) k h (omega (arith, p .size)), extent-limited (s .sizes) k)))
+
+-- lookup of a position of the shape, in a sound record whose rows increase
+pub lookup-position : (s : List ℤ) → sound s ≡ true → increasing (layoutIn s .rows) ≡ true → (q : List ℕ) → Position (layoutIn s .shape) q →
+    findNnzIndexCall s (map pos q) ≡ given (lookup (layoutIn s) q)
+unfolding ordered
+lookup-position s e i q p =
+    lookup-call s e (true-both e i) (map pos q) (position-good (layoutIn s) (layout-sound s e) q p) ∙ (rw naturals-pos)
 
 -- ---- two sound records, with a result of full size
 

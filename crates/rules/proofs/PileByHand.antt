@@ -89,9 +89,12 @@ pub record SlotTable : Type 0 where
   pub made : exchangeCall slice (pos 0) (pos 1) workSize ≡ given (slot (2 ∷ 0 ∷ 1 ∷ 3 ∷ 3 ∷ 0 ∷ 1 ∷ 2 ∷ 0 ∷ 0 ∷ []) 1792 ++ slot (2 ∷ 0 ∷ 1 ∷ 3 ∷ 0 ∷ 0 ∷ 0 ∷ 0 ∷ 9 ∷ []) 1793 ++ map pos (7 ∷ 8 ∷ []))
   pub short : exchangeCall slice (pos 0) (pos 1) 10811 ≡ refused 2
   pub outside : exchangeCall slice (pos 0) (pos 2) workSize ≡ refused 5
+  -- 2 comes before 5
+  pub short-outside : exchangeCall slice (pos 0) (pos 2) 10811 ≡ refused 2
   -- of three the second is refused; the third brings the union to the second slot
   pub all-made : exchangeAllCall slice (map pos (0 ∷ 1 ∷ 1 ∷ 1 ∷ 1 ∷ 0 ∷ [])) workSize
       ≡ given (record { made = 2; pile = slot (2 ∷ 0 ∷ 1 ∷ 3 ∷ 0 ∷ 0 ∷ 0 ∷ 2 ∷ 0 ∷ 0 ∷ []) 1792 ++ slot (2 ∷ 0 ∷ 1 ∷ 3 ∷ 3 ∷ 0 ∷ 1 ∷ 2 ∷ 0 ∷ 0 ∷ []) 1792 ++ map pos (7 ∷ 8 ∷ []) })
+  pub short-all : exchangeAllCall slice (map pos (0 ∷ [])) 10811 ≡ refused 2
   pub odd : exchangeAllCall slice (map pos (0 ∷ 1 ∷ 1 ∷ [])) workSize ≡ refused 5
 
 pub slot-table : SlotTable
@@ -102,6 +105,8 @@ slot-table = record {
   made = refl;
   short = refl;
   outside = refl;
+  short-outside = refl;
   all-made = refl;
+  short-all = refl;
   odd = refl;
 }

@@ -3,27 +3,22 @@ use mathlib.Core.Path.{_≡_, refl, sym, ap, _∙_}
 use mathlib.Core.Bool.{Bool, true, false, not}
 use mathlib.Core.List.{List, [], _∷_}
 use Prim.Native.Nat.{ℕ, _*_, _/_, _<_}
-use native.Mathlib.Omega.{arith}
-use lib.Dec.{eqb}
 use lib.IntN.{ℤ}
 use lib.ListN.{length, drop, set}
-use Rattle.rules.specs.Limits.{resultSize, workSize}
-use Rattle.rules.specs.Lists.{all}
+use Rattle.rules.specs.Limits.{resultSize}
 use Rattle.rules.specs.Buffers.{put}
 use Rattle.rules.specs.Refusals.{Verdict, given, refused, inForm, _then_, _when_, lowest}
 use Rattle.rules.specs.Layout.{Layout, encode}
 use Rattle.rules.specs.Soundness.{Sound}
-use Rattle.rules.specs.Record.{natural, layoutIn, sound}
+use Rattle.rules.specs.Record.{natural, sound}
 use Rattle.rules.specs.Arguments.{shortWork}
 use Rattle.rules.specs.Union.{unionCall}
 use Rattle.rules.specs.Intersect.{intersectCall}
-use Rattle.rules.specs.Pile.{areTwoPlaces, belongs, unionOf, intersectionOf, exchange, givenOr, exchanged, slotCount, slotAt, soundSlots, layoutsIn, exchangeCall, Exchanges, oneMore, exchangesFrom, exchangeAllCall, exchangesIn}
+use Rattle.rules.specs.Pile.{areTwoPlaces, unionOf, intersectionOf, exchange, slotCount, slotAt, soundSlots, layoutsIn, exchangeCall}
 use Rattle.rules.proofs.Encoded.{encode-short}
 use Rattle.rules.proofs.Unions.{never}
 use Rattle.rules.proofs.Calls.{union-call-sound, intersect-call-sound, union-read, intersect-read}
 use Rattle.rules.proofs.ExchangeMade.{Places, places-true, atPlace, exchange-nowhere, exchange-made, exchange-first-refused, exchange-second-refused}
-use Rattle.rules.proofs.ExchangeKeeps.{ExchangedAt, Keeps, exchange-holds, exchange-keeps}
-use Rattle.rules.proofs.Piles.{pile-keeps}
 use Rattle.rules.proofs.Slots.{slots-true, layouts-length, layouts-at, written-length, written-count, written-behind, slot-stays, slots-sound, layouts-set}
 
 -- ---- what an exchange writes

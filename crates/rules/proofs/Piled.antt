@@ -1,6 +1,6 @@
 -- What a layout of a pile is: the dense one of the shape, or rows of it in order; and what it counts. Assumes nothing.
 use mathlib.Core.Path.{_≡_, refl, sym, ap, _∙_}
-use mathlib.Core.Bool.{Bool, true, false, not, _&&_, _||_}
+use mathlib.Core.Bool.{Bool, true, false, _&&_, _||_}
 use mathlib.Core.List.{List, [], _∷_}
 use Prim.Native.Nat.{ℕ, _≤_}
 use native.Mathlib.Nat.{sub-zero}
@@ -23,7 +23,7 @@ use Rattle.rules.proofs.Sets.{each-nil, increasing-true, true-increasin
 use Rattle.rules.proofs.Tests.{conjunct, none-true}
 use Rattle.rules.proofs.Soundness.{sound-true, true-sound, increasing-distinct, dense-rows, whole-width}
 use Rattle.rules.proofs.Made.{Formed}
-use Rattle.rules.proofs.Forming.{DepsOfRank, Framed, dense-framed, sparse-framed, formed-sound}
+use Rattle.rules.proofs.Forming.{DepsOfRank, dense-framed, sparse-framed, formed-sound}
 use Rattle.rules.proofs.Finding.{lookup-inside, lookup-below, place-dense, place-sparse}
 use Rattle.rules.proofs.Holding.{Whole, whole-dense, whole-diagonal, whole-sparse, holds-position}
 use Rattle.rules.proofs.Found.{found-holds-read, holds-found}

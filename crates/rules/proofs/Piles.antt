@@ -1,6 +1,6 @@
 -- A pile under any exchanges, of which refused ones are not made: what stays, and what each of its layouts counts. Assumes nothing.
 use mathlib.Core.Path.{_≡_, refl, _∙_}
-use mathlib.Core.Bool.{true}
+use mathlib.Core.Bool.{true, false}
 use mathlib.Core.List.{List, [], _∷_, _++_}
 use Prim.Native.Nat.{ℕ, _<_}
 use native.Mathlib.Omega.{arith}
@@ -19,7 +19,7 @@ use Rattle.rules.proofs.Holding.{Position}
 use Rattle.rules.proofs.Piled.{Piled, piled-nnz, piled-finds, piled-before}
 use Rattle.rules.proofs.PiledPairs.{overfull}
 use Rattle.rules.proofs.ExchangeMade.{atPlace}
-use Rattle.rules.proofs.ExchangeKeeps.{ExchangedAt, Keeps, piled-at, exchange-holds, exchange-keeps, exchange-only-13}
+use Rattle.rules.proofs.ExchangeKeeps.{ExchangedAt, Keeps, piled-at, exchange-holds, exchange-keeps, exchange-fits, exchange-over}
 
 -- ---- any exchanges
 
@@ -76,25 +76,29 @@ piled-counted {shape} {l} p = record {
 
 -- ---- the whole
 
--- after any exchanges the counts of a pile are as at the start, each layout counts what it holds, one more exchange at two
--- places does what it should, or is refused with 13, where both are sparse and their rows together are more than 128
+-- after any exchanges the counts of a pile are as at the start, and each layout counts what it holds; one more exchange at two
+-- places does what it should, and is made, unless both are sparse and their rows together are more than 128: then it is 13
 pub record Stays (shape : List ℕ) (pile : List Layout) : Type 0 where
   pub keeps : (moves : List Exchange) → Keeps shape pile (exchanged moves pile)
   pub counted : (moves : List Exchange) (k : ℕ) → k < length pile → Counted shape (layoutOf (exchanged moves pile) k)
   pub next : (moves : List Exchange) (first second : ℤ) {new : List Layout} → exchange first second (exchanged moves pile) ≡ given new →
       ExchangedAt first second (exchanged moves pile) new
-  pub refuses : (moves : List Exchange) (first second : ℤ) {n : ℕ} → areTwoPlaces first second (length pile) ≡ true →
-      exchange first second (exchanged moves pile) ≡ refused n → (n ≡ 13) × (overfull (atPlace (exchanged moves pile) first) (atPlace (exchanged moves pile) second) ≡ true)
+  pub fits : (moves : List Exchange) (first second : ℤ) → areTwoPlaces first second (length pile) ≡ true →
+      overfull (atPlace (exchanged moves pile) first) (atPlace (exchanged moves pile) second) ≡ false →
+      (new : List Layout) × (exchange first second (exchanged moves pile) ≡ given new)
+  pub over : (moves : List Exchange) (first second : ℤ) → areTwoPlaces first second (length pile) ≡ true →
+      overfull (atPlace (exchanged moves pile) first) (atPlace (exchanged moves pile) second) ≡ true →
+      exchange first second (exchanged moves pile) ≡ refused 13
 
 -- a pile stays so
 pub pile-stays : (shape : List ℕ) (pile : List Layout) → all (belongs shape) pile ≡ true → Stays shape pile
 pile-stays shape pile p = record {
-  keeps = λ moves. pile-keeps moves pile p;
-  counted = λ moves k h.
-      let q = pile-keeps moves pile p in
-      piled-counted (piled-at (exchanged moves pile) (q .belong) k (omega (arith, q .as-many)));
-  next = λ moves first second e. exchange-holds shape first second (exchanged moves pile) (pile-keeps moves pile p .belong) e;
-  refuses = λ moves first second t e.
-      let q = pile-keeps moves pile p in
-      exchange-only-13 shape first second (exchanged moves pile) (q .belong) (rw (q .as-many) t) e;
+  keeps = after;
+  counted = λ moves k h. piled-counted (piled-at (exchanged moves pile) (after moves .belong) k (omega (arith, after moves .as-many)));
+  next = λ moves first second e. exchange-holds shape first second (exchanged moves pile) (after moves .belong) e;
+  fits = λ moves first second t f. exchange-fits shape first second (exchanged moves pile) (after moves .belong) (rw (after moves .as-many) t) f;
+  over = λ moves first second t f. exchange-over shape first second (exchanged moves pile) (after moves .belong) (rw (after moves .as-many) t) f;
 }
+  where
+    after : (moves : List Exchange) → Keeps shape pile (exchanged moves pile)
+    after moves = pile-keeps moves pile p

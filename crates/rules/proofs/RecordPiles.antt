@@ -1,22 +1,30 @@
 -- A pile of records under any exchanges: all that is said of a pile of layouts holds of what is left in its slots. Assumes nothing.
 use mathlib.Core.Path.{_≡_, refl, sym, ap, _∙_}
 use mathlib.Core.Bool.{Bool, true, false}
-use mathlib.Core.List.{List, [], _∷_}
-use Prim.Native.Nat.{ℕ, _+_, _%_}
+use mathlib.Core.List.{List, [], _∷_, map}
+use Prim.Native.Nat.{ℕ, _+_, _%_, _<_}
 use native.Mathlib.Omega.{arith}
 use lib.Dec.{eqb}
-use lib.IntN.{ℤ}
+use lib.IntN.{ℤ, pos}
 use lib.ListN.{length}
 use Rattle.rules.specs.Limits.{workSize}
 use Rattle.rules.specs.Lists.{all}
 use Rattle.rules.specs.Refusals.{Verdict, given, refused, inForm, _then_, _when_, lowest}
+use Rattle.rules.specs.Record.{layoutIn}
 use Rattle.rules.specs.Arguments.{shortWork}
+use Rattle.rules.specs.Lookup.{lookup, findNnzIndexCall}
+use Rattle.rules.specs.CountsAndForms.{nnzCall}
+use Rattle.rules.specs.Holding.{heldPositions}
 use Rattle.rules.specs.Union.{unionCall}
 use Rattle.rules.specs.Intersect.{intersectCall}
-use Rattle.rules.specs.Pile.{belongs, exchange, givenOr, exchanged, oneIfGiven, exchangesMade, soundSlots, layoutsIn, exchangeCall, Exchanges, oneMore, exchangesFrom, exchangeAllCall, exchangesIn}
+use Rattle.rules.specs.Pile.{belongs, exchange, givenOr, exchanged, oneIfGiven, exchangesMade, slotCount, slotAt, soundSlots, layoutsIn, exchangeCall, Exchanges, oneMore, exchangesFrom, exchangeAllCall, exchangesIn}
+use Rattle.rules.proofs.Holding.{Position}
 use Rattle.rules.proofs.Unions.{never}
-use Rattle.rules.proofs.ExchangeKeeps.{ExchangedAt, Keeps, exchange-holds, exchange-keeps}
-use Rattle.rules.proofs.Piles.{pile-keeps}
+use Rattle.rules.proofs.Calls.{nnz-call, lookup-position}
+use Rattle.rules.proofs.Piled.{Piled, piled-shape, piled-ordered}
+use Rattle.rules.proofs.ExchangeKeeps.{ExchangedAt, Keeps, piled-at, exchange-holds, exchange-keeps}
+use Rattle.rules.proofs.Piles.{pile-keeps, Counted, piled-counted}
+use Rattle.rules.proofs.Slots.{slots-true, layouts-length, layouts-at}
 use Rattle.rules.proofs.PileRecords.{Kept, kept-same, kept-both, exchange-written, written-kept, exchange-records}
 
 -- ---- one exchange
@@ -158,3 +166,26 @@ exchange-all-leaves shape pile pairs work {e} s p d =
 
     layouts : layoutsIn (exchangesFrom start pairs .pile) ≡ exchanged (exchangesIn pairs) (layoutsIn pile)
     layouts = records-exchanged pairs start s
+
+-- ---- what calls on the slots answer
+
+-- `nnz` answers how many positions its layout holds; a lookup answers as the layout's own, and finds a position of the shape
+-- exactly if it is held, at its place
+pub record Answers (shape : List ℕ) (s : List ℤ) : Type 0 where
+  pub nnz-answer : nnzCall s ≡ given (length (heldPositions (layoutIn s)))
+  pub lookup-answer : (q : List ℕ) → Position shape q → findNnzIndexCall s (map pos q) ≡ given (lookup (layoutIn s) q)
+  pub counted : Counted shape (layoutIn s)
+
+-- so do the slots of a pile of records
+pub slots-answer : (shape : List ℕ) (pile : List ℤ) → soundSlots pile ≡ true → all (belongs shape) (layoutsIn pile) ≡ true → (k : ℕ) → k < slotCount pile → Answers shape (slotAt pile k)
+slots-answer shape pile s p k h = record {
+  nnz-answer = nnz-call (slotAt pile k) (slots-true pile s k h) ∙ ap given (counts .nnz-is);
+  lookup-answer = λ q n. lookup-position (slotAt pile k) (slots-true pile s k h) (piled-ordered piled) q (rw (piled-shape piled) n);
+  counted = counts;
+}
+  where
+    piled : Piled shape (layoutIn (slotAt pile k))
+    piled = rw (layouts-at pile k h) at (piled-at (layoutsIn pile) p k (rw (layouts-length pile) h))
+
+    counts : Counted shape (layoutIn (slotAt pile k))
+    counts = piled-counted piled
