@@ -17,12 +17,14 @@ use Rattle.rules.specs.CountsAndForms.{nnzCall}
 use Rattle.rules.specs.Holding.{heldPositions}
 use Rattle.rules.specs.Union.{unionCall}
 use Rattle.rules.specs.Intersect.{intersectCall}
-use Rattle.rules.specs.Pile.{belongs, exchange, givenOr, exchanged, oneIfGiven, exchangesMade, slotCount, slotAt, soundSlots, layoutsIn, exchangeCall, Exchanges, oneMore, exchangesFrom, exchangeAllCall, exchangesIn}
+use Rattle.rules.specs.Pile.{areTwoPlaces, belongs, exchange, givenOr, exchanged, oneIfGiven, exchangesMade, slotCount, slotAt, soundSlots, layoutsIn, exchangeCall, Exchanges, oneMore, exchangesFrom, exchangeAllCall, exchangesIn}
 use Rattle.rules.proofs.Holding.{Position}
 use Rattle.rules.proofs.Unions.{never}
 use Rattle.rules.proofs.Calls.{nnz-call, lookup-position}
 use Rattle.rules.proofs.Piled.{Piled, piled-shape, piled-ordered}
-use Rattle.rules.proofs.ExchangeKeeps.{ExchangedAt, Keeps, piled-at, exchange-holds, exchange-keeps}
+use Rattle.rules.proofs.PiledPairs.{overfull}
+use Rattle.rules.proofs.ExchangeMade.{atPlace}
+use Rattle.rules.proofs.ExchangeKeeps.{ExchangedAt, Keeps, piled-at, exchange-holds, exchange-keeps, exchange-over, exchange-only-13}
 use Rattle.rules.proofs.Piles.{pile-keeps, Counted, piled-counted}
 use Rattle.rules.proofs.Slots.{slots-true, layouts-length, layouts-at}
 use Rattle.rules.proofs.PileRecords.{Kept, kept-same, kept-both, exchange-written, written-kept, exchange-records}
@@ -64,6 +66,24 @@ exchange-leaves shape pile first second work {new} s p e =
       keeps = exchange-keeps shape first second (layoutsIn pile) p same;
       kept = written-kept (exchange-written pile first second work e);
     }
+
+-- a verdict whose layouts are refused is refused so
+refused-before : (v : Verdict (List ℤ)) {n : ℕ} → inForm layoutsIn v ≡ refused n → v ≡ refused n
+refused-before (given new) e = absurd (never (sym e))
+refused-before (refused m) e = cc
+
+-- two places of a pile of records, and a working buffer that is not short
+module _ (shape : List ℕ) (pile : List ℤ) (first second : ℤ) (work : ℕ) (s : soundSlots pile ≡ true) (p : all (belongs shape) (layoutsIn pile) ≡ true)
+    (w : shortWork work ≡ false) (t : areTwoPlaces first second (length (layoutsIn pile)) ≡ true) where
+  -- an exchange is refused with 13 where both are sparse and their rows together are more than 128
+  pub call-over : overfull (atPlace (layoutsIn pile) first) (atPlace (layoutsIn pile) second) ≡ true → exchangeCall pile first second work ≡ refused 13
+  call-over f =
+      refused-before (exchangeCall pile first second work) (exchange-records pile first second work w s ∙ exchange-over shape first second (layoutsIn pile) p t f)
+
+  -- and with no other number, nor elsewhere
+  pub call-only-13 : {n : ℕ} → exchangeCall pile first second work ≡ refused n →
+      (n ≡ 13) × (overfull (atPlace (layoutsIn pile) first) (atPlace (layoutsIn pile) second) ≡ true)
+  call-only-13 e = exchange-only-13 shape first second (layoutsIn pile) p t (sym (exchange-records pile first second work w s) ∙ ap (inForm layoutsIn) e)
 
 -- ---- any exchanges
 
