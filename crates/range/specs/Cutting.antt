@@ -2,7 +2,7 @@
 use mathlib.Core.Path.{_≡_}
 use mathlib.Core.Bool.{Bool, true, false, not, _&&_, _||_}
 use mathlib.Core.List.{List, map}
-use Prim.Native.Nat.{ℕ, _+_, _<_, _≤_}
+use Prim.Native.Nat.{ℕ, _+_, _-_, _<_, _≤_}
 use lib.Dec.{eqb, leb, ltb}
 use lib.IntN.{ℤ}
 use lib.ListN.{length, getD, take}
@@ -27,10 +27,11 @@ use Rattle.range.specs.declared.Cut.{Cut}
 abbrev pub wideOf : List ℕ → List ℕ
 wideOf shape = keep (λ axis. ltb 1 (getD shape axis 0)) (below (length shape))
 
--- how many they are, and the first of them
+-- how many they are, and the first of them, which is an axis if there is any
 pub record WideIs (shape : List ℕ) (count first : ℕ) : Type 0 where
   pub count-is : count ≡ length (wideOf shape)
   pub first-is : first ≡ getD (wideOf shape) 0 0
+  pub within : first ≤ length shape - 1
 
 -- a source cannot be cut for a target of a rank
 abbrev pub uncuttable : ℕ → Layout → Bool

@@ -108,14 +108,7 @@ fn cut_row(s: &[i32], at: usize, rank: usize, cut: Cut) -> [i32; 5]
 }
 
 // The entries of a record that lie in the range, cut, become the table at a place of a part as they come; answers whether they increase.
-fn cut_deps(
-    s: &[i32],
-    rank: usize,
-    deps: Entries,
-    cut: Cut,
-    part: &mut [i32],
-    at: usize,
-) -> bool
+fn cut_deps(s: &[i32], rank: usize, deps: Entries, cut: Cut, part: &mut [i32], at: usize) -> bool
     requires { ⌜ CutAsked rank deps cut (now s) at (now part) ⌝ }
     ensures { λ r. ⌜ DepsCut rank deps cut (now (s .entry)) at (now (part .entry)) (now (part .exit)) r ⌝ }
 {

@@ -1,98 +1,83 @@
+-- `cut_deps`: at each turn what is left of the first i entries is the table.
+use Prim.Native.Nat.{_-_}
+use native.Mathlib.Omega.{arith}
+use borrow.Author.Needs.{needs}
+use Rattle.range.proofs.Cutting.{Cutting, entry-ends, ask-row, can-add, cutting}
 use Rattle.range.proofs.cut_deps.Statement.{statement}
 use Rattle.range.proofs.cut_deps.Tie as tie
-use Rattle.range.proofs.cut_deps.Reads as reads
-use Rattle.range.proofs.cut_deps.Lts as lts
-use Rattle.cells.proofs.store.Reads as store-reads
-use Rattle.range.proofs.cut_row.Reads as cut-row-reads
-use Rattle.range.proofs.in_range.Reads as in-range-reads
-use Rattle.tables.proofs.insert_at.Reads as insert-at-reads
-use Rattle.tables.proofs.is_increasing.Reads as is-increasing-reads
 
 abbrev Inv-loop : tie.InvT-loop
-Inv-loop s rank deps cut part₀ at width w n₀ i₀ part n i = ?
+Inv-loop s rank deps cut part₀ at width w n₀ i₀ part n i = Cutting rank deps cut s at part₀ part n i
 
 abbrev μ-loop : tie.MeasureT-loop
-μ-loop s rank deps cut part₀ at width w n₀ i₀ part n i = ?
+μ-loop s rank deps cut part₀ at width w n₀ i₀ part n i = deps .count - i
 
--- src/lib.rt:122:17
 add-width : tie.Need-add-width Inv-loop μ-loop
-add-width c = ?
+add-width c = search (needs, cutting)
 
--- src/lib.rt:123:13
 add-w : tie.Need-add-w Inv-loop μ-loop
-add-w c = ?
+add-w c = search (needs, cutting)
 
--- src/lib.rt:124:5
 store-requires : tie.Need-store-requires Inv-loop μ-loop
-store-requires c κs = ?
+store-requires c κs = search (needs, cutting)
 
--- src/lib.rt:127:5
 loop-holds : tie.Need-loop-holds Inv-loop μ-loop
-loop-holds c = ?
+loop-holds c = search (needs, cutting)
 
--- src/lib.rt:128:34
 mul-entry : tie.Need-mul-entry Inv-loop μ-loop
-mul-entry c = ?
+mul-entry c = omega (arith, entry-ends (c .before .before .loop .inv) (c .if1 .taken))
 
--- src/lib.rt:128:21
 add-entry : tie.Need-add-entry Inv-loop μ-loop
-add-entry c = ?
+add-entry c = omega (arith, entry-ends (c .before .before .before .loop .inv) (c .before .if1 .taken))
 
--- src/lib.rt:129:9
 add-i : tie.Need-add-i Inv-loop μ-loop
-add-i c = ?
+add-i c = search (needs, cutting)
 
--- src/lib.rt:130:13
 in-range-requires : tie.Need-in-range-requires Inv-loop μ-loop
-in-range-requires c κs = ?
+in-range-requires c κs = search (needs, cutting)
 
--- src/lib.rt:127:5
 loop-less : tie.Need-loop-less Inv-loop μ-loop
-loop-less c = ?
+loop-less c = search (needs, cutting)
 
--- src/lib.rt:127:5
 loop-again : tie.Need-loop-again Inv-loop μ-loop
-loop-again c = ?
+loop-again c = search (needs, cutting)
 
--- src/lib.rt:133:19
 cut-row-requires : tie.Need-cut-row-requires Inv-loop μ-loop
-cut-row-requires c κs = ?
+cut-row-requires c κs =
+    let ranged = c .before in
+    let more = ranged .before .before in
+    ask-row (more .before .before .loop .inv) (more .if1 .taken) (ranged .in-range .ensures) (c .if2 .left)
 
--- src/lib.rt:134:46
 slice-aggregate-insert-at : tie.Need-slice-aggregate-insert-at Inv-loop μ-loop
-slice-aggregate-insert-at c = ?
+slice-aggregate-insert-at c = search (needs, cutting)
 
--- src/lib.rt:134:9
 insert-at-requires : tie.Need-insert-at-requires Inv-loop μ-loop
-insert-at-requires c κs = ?
+insert-at-requires c κs = search (needs, cutting)
 
--- src/lib.rt:135:9
 add-n : tie.Need-add-n Inv-loop μ-loop
-add-n c = ?
+add-n c =
+    let kept = c .before .before .before .before .before in
+    let ranged = kept .before in
+    let more = ranged .before .before in
+    omega (arith, can-add (more .before .before .loop .inv) (more .if1 .taken) (ranged .in-range .ensures) (kept .if2 .left) .few)
 
--- src/lib.rt:127:5
 loop-less-2 : tie.Need-loop-less-2 Inv-loop μ-loop
-loop-less-2 c = ?
+loop-less-2 c = search (needs, cutting)
 
--- src/lib.rt:127:5
 loop-again-2 : tie.Need-loop-again-2 Inv-loop μ-loop
-loop-again-2 c = ?
+loop-again-2 c = search (needs, cutting)
 
--- src/lib.rt:137:33
 add-is-increasing : tie.Need-add-is-increasing Inv-loop μ-loop
-add-is-increasing c = ?
+add-is-increasing c = search (needs, cutting)
 
--- src/lib.rt:137:5
 is-increasing-requires : tie.Need-is-increasing-requires Inv-loop μ-loop
-is-increasing-requires c κs = ?
+is-increasing-requires c κs = search (needs, cutting)
 
--- src/lib.rt:111:1
 same-length : tie.Need-same-length Inv-loop μ-loop
-same-length c = ?
+same-length c = search (needs, cutting)
 
--- src/lib.rt:111:1
 returns : tie.Need-returns Inv-loop μ-loop
-returns c = ?
+returns c = search (needs, cutting)
 
 pub cut-deps-spec : {M : Type 1} → statement M
 cut-deps-spec =

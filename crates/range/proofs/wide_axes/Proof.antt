@@ -1,54 +1,44 @@
+-- `wide_axes`: at each turn the axes from axis k on are counted.
+use borrow.Author.Needs.{needs}
+use Rattle.range.proofs.Axes.{Counted, counting}
 use Rattle.range.proofs.wide_axes.Statement.{statement}
 use Rattle.range.proofs.wide_axes.Tie as tie
-use Rattle.range.proofs.wide_axes.Reads as reads
-use Rattle.range.proofs.wide_axes.Lts as lts
-use Rattle.cells.proofs.get.Reads as get-reads
 
 abbrev Inv-loop : tie.InvT-loop
-Inv-loop s at rank count₀ first₀ k₀ count first k = ?
+Inv-loop s at rank count₀ first₀ k₀ count first k = Counted at rank s count first k
 
 abbrev μ-loop : tie.MeasureT-loop
-μ-loop s at rank count₀ first₀ k₀ count first k = ?
+μ-loop s at rank count₀ first₀ k₀ count first k = k
 
--- src/lib.rt:46:5
 loop-holds : tie.Need-loop-holds Inv-loop μ-loop
-loop-holds c = ?
+loop-holds c = search (needs, counting)
 
--- src/lib.rt:47:9
 sub-k : tie.Need-sub-k Inv-loop μ-loop
-sub-k c = ?
+sub-k c = search (needs, counting)
 
--- src/lib.rt:48:26
 add-get : tie.Need-add-get Inv-loop μ-loop
-add-get c = ?
+add-get c = search (needs, counting)
 
--- src/lib.rt:48:12
 get-requires : tie.Need-get-requires Inv-loop μ-loop
-get-requires c κs = ?
+get-requires c κs = search (needs, counting)
 
--- src/lib.rt:46:5
 loop-less : tie.Need-loop-less Inv-loop μ-loop
-loop-less c = ?
+loop-less c = search (needs, counting)
 
--- src/lib.rt:46:5
 loop-again : tie.Need-loop-again Inv-loop μ-loop
-loop-again c = ?
+loop-again c = search (needs, counting)
 
--- src/lib.rt:51:9
 add-count : tie.Need-add-count Inv-loop μ-loop
-add-count c = ?
+add-count c = search (needs, counting)
 
--- src/lib.rt:46:5
 loop-less-2 : tie.Need-loop-less-2 Inv-loop μ-loop
-loop-less-2 c = ?
+loop-less-2 c = search (needs, counting)
 
--- src/lib.rt:46:5
 loop-again-2 : tie.Need-loop-again-2 Inv-loop μ-loop
-loop-again-2 c = ?
+loop-again-2 c = search (needs, counting)
 
--- src/lib.rt:39:1
 returns : tie.Need-returns Inv-loop μ-loop
-returns c = ?
+returns c = search (needs, counting)
 
 pub wide-axes-spec : {M : Type 1} → statement M
 wide-axes-spec =
