@@ -1,6 +1,6 @@
 -- `filter_deps_from`: the range as it was handed over and judged, and the step in the first part of the working buffer. Assumes nothing.
 use mathlib.Core.Path.{_≡_}
-use mathlib.Core.Bool.{false, not, _&&_, _||_}
+use mathlib.Core.Bool.{not, _&&_, _||_}
 use mathlib.Core.List.{List, [], _∷_}
 use Prim.Native.Nat.{ℕ}
 use native.Mathlib.Omega.{arith}
@@ -10,11 +10,10 @@ use mir.Syntax.{w32}
 use mir.Val.{SFits, toZ, ofZ}
 use mir.ValLaws.{toZ-ofZ}
 use Rattle.rules.specs.declared.Head.{Head}
-use Rattle.rules.specs.declared.Refusal.the-variants.{WrongArgument}
 use Rattle.rules.specs.declared.Step.{Step}
 use Rattle.rules.specs.declared.Written.{Written}
 use Rattle.rules.specs.Limits.{workSize}
-use Rattle.rules.specs.Refusals.{Verdict, given, refused, inForm, numberOf, Reason, _when_, lowest}
+use Rattle.rules.specs.Refusals.{Verdict, inForm, Reason, _when_}
 use Rattle.rules.specs.Layout.{Layout, encode}
 use Rattle.rules.specs.Record.{natural, layoutIn}
 use Rattle.rules.specs.Arguments.{overRecord, goodEnd}
@@ -31,7 +30,7 @@ use Rattle.parts.proofs.Windows.{part-only, part-says}
 use Rattle.judging.specs.declared.Range.{Range}
 use Rattle.judging.specs.LentSizes.{SizesKept}
 use Rattle.judging.specs.Judging.{RangeGood, RangeIs}
-use Rattle.judging.proofs.Judged.{reason-holds, reason-passed, not-holds, not-fails}
+use Rattle.judging.proofs.Judged.{argument-right, not-holds}
 use Rattle.judging.proofs.PairCalls.{pair-done}
 
 -- a refusal is above 2
@@ -53,15 +52,6 @@ module _ (start end : ℤ) where
   abbrev pub rangeReasons : List Reason
   rangeReasons = 5 when not (goodEnd start && goodEnd end) ∷ []
 
-  pub wrong-range : goodEnd start && goodEnd end ≡ false → lowest rangeReasons ≡ refused (numberOf WrongArgument)
-  unfolding numberOf
-  wrong-range e = reason-holds 5 (not (goodEnd start && goodEnd end)) [] (not-fails (goodEnd start && goodEnd end) e)
-
-  module _ {from to : ℕ} (g : RangeGood start end from to) where
-    pub good-range : lowest rangeReasons ≡ given tt
-    unfolding lowest
-    good-range = reason-passed 5 (not (goodEnd start && goodEnd end)) [] (not-holds (goodEnd start && goodEnd end) (g .good))
-
 -- ---- the part that came back from the step
 
 module _ (start end : ℤ) (s t result work : List ℤ) (k : SizesKept (overRecord s || overRecord t) (length result) (length work)) {from to : ℕ} (g : RangeGood start end from to)
@@ -73,5 +63,5 @@ module _ (start end : ℤ) (s t result work : List ℤ) (k : SizesKept (overReco
       Ends (inForm encode (filterDepsFromCall s t start end (length result) (length work))) result work r result′ work′
   unfolding filterDepsFromCall
   filter-done p q f =
-      pair-done (filterOf start end) (rangeReasons start end) s t result work k p q (good-range start end g) (late-filter (layoutIn s) (layoutIn t) (natural start) (natural end)) filter-says
+      pair-done (filterOf start end) (rangeReasons start end) s t result work k p q (argument-right (not (goodEnd start && goodEnd end)) (not-holds (goodEnd start && goodEnd end) (g .good))) (late-filter (layoutIn s) (layoutIn t) (natural start) (natural end)) filter-says
       (only-wider (part-only work (k .work-long) new same) 0 workSize (omega arith) (omega arith)) f

@@ -11,10 +11,11 @@ use Rattle.records.specs.Sound.{SoundRecord}
 use Rattle.records.proofs.SoundRecords.{sound-record}
 use Rattle.judging.specs.LentSizes.{SizesKept}
 use Rattle.judging.specs.Judging.{RangeGood, RangeIs}
+use Rattle.judging.proofs.Judged.{argument-wrong, not-fails}
 use Rattle.judging.proofs.RangeEnds.{range-within, range-wrong}
 use Rattle.judging.proofs.PairCalls.{pair-early, pair-kept, pair-late, pair-late-first, pair-late-second}
 use Rattle.judging.proofs.SoundRecords.{pair-passed}
-use Rattle.pair_calls.proofs.Filters.{filterOf, range-handed, rangeReasons, wrong-range, filter-says, filter-done}
+use Rattle.pair_calls.proofs.Filters.{filterOf, range-handed, rangeReasons, filter-says, filter-done}
 use Rattle.pair_calls.proofs.filter.filter_deps_from.Statement.{statement}
 use Rattle.pair_calls.proofs.filter.filter_deps_from.Tie as tie
 
@@ -170,7 +171,7 @@ returns-4 c =
     let read = judged .before in
     let a = begin read .args in
     let r = both read in
-    pair-late (filterOf (a .start) (a .end)) (rangeReasons (a .start) (a .end)) (now (a .target)) (now (a .source)) (now (a .result)) (now (a .work)) (sized read) (omega arith, tt) (pair-passed _ _ (rangeReasons (a .start) (a .end)) (r .0) (r .1) ∙ wrong-range _ _ (range-wrong _ _ (ranged judged) (told .enum-told4 .given .1))) (refused .refuse3 .ensures)
+    pair-late (filterOf (a .start) (a .end)) (rangeReasons (a .start) (a .end)) (now (a .target)) (now (a .source)) (now (a .result)) (now (a .work)) (sized read) (omega arith, tt) (pair-passed _ _ (rangeReasons (a .start) (a .end)) (r .0) (r .1) ∙ argument-wrong _ (not-fails _ (range-wrong _ _ (ranged judged) (told .enum-told4 .given .1)))) (refused .refuse3 .ensures)
 
 sub-filter-into : tie.Need-sub-filter-into
 sub-filter-into c = search needs
