@@ -10,9 +10,9 @@ use lib.IntN.{ℤ}
 use lib.ListN.{length, getD, take, drop, set, replicate}
 use lib.Seq.{getD-take}
 use Rattle.rules.specs.Limits.{rankLimit}
-use Rattle.rules.specs.Lists.{sum, larger, largest, from, below, fitTo}
+use Rattle.rules.specs.Lists.{if, sum, larger, largest, from, below, fitTo}
 use Rattle.rules.specs.Layout.{Layout}
-use Rattle.rules.specs.Concatenate.{Block, layoutsOf, shapesOf, firstExtent, laterExtent, joinedShape, reach}
+use Rattle.rules.specs.Concatenate.{Block, layoutsOf, shapesOf, firstExtent, laterExtent, laterAxes, reach}
 use Rattle.cells.specs.View.{Low}
 use Rattle.lists.proofs.Entering.{Entered, entered-none, entered-more, Filled, filled-done}
 use Rattle.lists.proofs.Common.{larger-is}
@@ -32,22 +32,22 @@ map-of g f (x ∷ l) = ap (λ (m : List _). g (f x) ∷ m) (map-of g f l)
 
 -- ---- one axis
 
-module _ {way : Way} (l : List Block) (axis : ℕ) {r : ℕ} where
-  pub no-extent : way ≡ Unjoinable → 0 ≡ extentBy way l axis
-  no-extent e = rw e
+-- the extents of an axis
+extents-of : (l : List Block) (axis : ℕ) → map (measure (Extent axis)) l ≡ map (λ shape. getD shape axis 0) (shapesOf l)
+extents-of l axis = map-of (λ (shape : List ℕ). getD shape axis 0) (λ (b : Block). b .layout .shape) l
 
+pub no-extent : {way : Way} (l : List Block) (axis : ℕ) → way ≡ Unjoinable → 0 ≡ extentBy way l axis
+no-extent l axis e = rw e
+
+module _ {way : Way} (l : List Block) (axis : ℕ) {r : ℕ} where
   pub first-extent : way ≡ Dense → axis ≡ 0 → r ≡ folded Sum (map (measure First) l) → r ≡ extentBy way l axis
   first-extent e f g = g ∙ rw (e, f) (ap sum (map-of firstExtent (λ b. b .layout) l))
 
-  -- the extents of an axis
-  extents-of : map (measure (Extent axis)) l ≡ map (λ shape. getD shape axis 0) (shapesOf l)
-  extents-of = map-of (λ (shape : List ℕ). getD shape axis 0) (λ (b : Block). b .layout .shape) l
-
   pub later-extent : {m : ℕ} → way ≡ Dense → (axis ≡ 0 → ⊥) → m ≡ folded Largest (map (measure (Extent axis)) l) → r ≡ larger 1 m → r ≡ extentBy way l axis
-  later-extent e f g h = h ∙ rw (e, ne-eqb axis 0 f) (ap (λ (x : ℕ). larger 1 x) (g ∙ ap largest extents-of))
+  later-extent e f g h = h ∙ rw (e, ne-eqb axis 0 f) (ap (λ (x : ℕ). larger 1 x) (g ∙ ap largest (extents-of l axis)))
 
   pub diagonal-extent : way ≡ Diagonal → r ≡ folded Sum (map (measure (Extent axis)) l) → r ≡ extentBy way l axis
-  diagonal-extent e g = g ∙ rw e (ap sum extents-of)
+  diagonal-extent e g = g ∙ rw e (ap sum (extents-of l axis))
 
   pub reached-extent : way ≡ Rows → r ≡ folded Largest (map (measure (Reach axis)) l) → r ≡ extentBy way l axis
   reached-extent e g = g ∙ rw e
@@ -77,6 +77,17 @@ no-extents (suc (suc (suc zero))) h = refl
 no-extents (suc (suc (suc (suc zero)))) h = refl
 no-extents (suc (suc (suc (suc (suc r))))) h = absurd (omega arith)
 
+-- the first extents summed, and the later ones
+dense-shape : (l : List Layout) (shapes : List (List ℕ)) (r : ℕ) →
+    map (λ axis. if (eqb axis 0) (sum (map firstExtent l)) (laterExtent shapes axis)) (below r) ≡ if (eqb r 0) [] (sum (map firstExtent l) ∷ map (laterExtent shapes) (laterAxes r))
+unfolding from
+dense-shape l shapes zero = refl
+dense-shape l shapes (suc r) =
+    let same : suc r - 1 ≡ r = omega arith in
+    rw (ne-eqb (suc r) 0 (λ e. omega arith), same)
+    (ap (λ (m : List ℕ). sum (map firstExtent l) ∷ m)
+    (map-from (λ axis. if (eqb axis 0) (sum (map firstExtent l)) (laterExtent shapes axis)) (laterExtent shapes) 1 r (λ axis u v. rw (ne-eqb axis 0 (λ e. omega arith)))))
+
 module _ (r : ℕ) (h : r ≤ 4) where
   -- blocks reach as far by the numbers of their starts that count
   reach-by : (starts : List (List ℕ)) (l : List Layout) (axis : ℕ) → axis < r → reach (placed 4 starts l) axis ≡ reach (placed r starts l) axis
@@ -88,18 +99,17 @@ module _ (r : ℕ) (h : r ≤ 4) where
   -- the extents are those of the shape
   extents-are : (way : Way) (starts : List (List ℕ)) (l : List Layout) →
       fitTo 4 0 (map (extentBy way (placed 4 starts l)) (below r)) ≡ fitTo 4 0 (shapeBy way r (placed r starts l))
-  unfolding from
   extents-are Unjoinable starts l = no-extents r h
-  extents-are Dense starts l = ap (fitTo 4 0) (by r)
-    where
-      by : (k : ℕ) → map (extentBy Dense (placed 4 starts l)) (below k) ≡ joinedShape k (placed r starts l)
-      by zero = refl
-      by (suc k) =
-          let same : suc k - 1 ≡ k = omega arith in
-          rw (layouts-placed 4 starts l, shapes-placed 4 starts l, layouts-placed r starts l, shapes-placed r starts l, same)
-          (ap (λ (m : List ℕ). sum (map firstExtent l) ∷ m)
-          (map-from _ (laterExtent (map (λ x. x .shape) l)) 1 k (λ axis u v. rw (ne-eqb axis 0 (λ e. omega arith)))))
-  extents-are Diagonal starts l = rw (shapes-placed 4 starts l, shapes-placed r starts l)
+  extents-are Dense starts l =
+      ap (fitTo 4 0)
+      (dense-shape (layoutsOf (placed 4 starts l)) (shapesOf (placed 4 starts l)) r
+      ∙ ap (λ (m : List Layout). if (eqb r 0) [] (sum (map firstExtent m) ∷ map (laterExtent (shapesOf (placed 4 starts l))) (laterAxes r)))
+      (layouts-placed 4 starts l ∙ sym (layouts-placed r starts l))
+      ∙ ap (λ (shapes : List (List ℕ)). if (eqb r 0) [] (sum (map firstExtent (layoutsOf (placed r starts l))) ∷ map (laterExtent shapes) (laterAxes r)))
+      (shapes-placed 4 starts l ∙ sym (shapes-placed r starts l)))
+  extents-are Diagonal starts l =
+      ap (λ (shapes : List (List ℕ)). fitTo 4 0 (map (λ axis. sum (map (λ shape. getD shape axis 0) shapes)) (below r)))
+      (shapes-placed 4 starts l ∙ sym (shapes-placed r starts l))
   extents-are Rows starts l = ap (fitTo 4 0) (map-from (reach (placed 4 starts l)) (reach (placed r starts l)) 0 r (λ axis u v. reach-by starts l axis (omega arith)))
 
 -- the first k of rank extents are there, and none is too large

@@ -11,10 +11,10 @@ use lib.IntN.{ℤ}
 use lib.ListN.{length, getD, take, drop, length-drop}
 use lib.Seq.{getD-drop, ext-getD}
 use Rattle.rules.specs.Limits.{rankLimit}
-use Rattle.rules.specs.Lists.{if, all, any, keep, from, same}
+use Rattle.rules.specs.Lists.{if, all, any, keep, from, same, fitTo}
 use Rattle.rules.specs.Layout.{Layout, rank, isDense}
 use Rattle.rules.specs.Record.{layoutIn}
-use Rattle.rules.specs.Concatenate.{shapesOf, startAt, laterExtent, laterAgree, firstD, lastAgree, agree}
+use Rattle.rules.specs.Concatenate.{Block, shapesOf, startAt, laterExtent, laterAgree, firstD, lastAgree, agree}
 use Rattle.rules.proofs.Same.{decided, same-true, same-refl}
 use Rattle.rules.proofs.Tests.{all-each, each-all}
 use Rattle.rules.proofs.Ranges.{from-only, from-has}
@@ -23,12 +23,13 @@ use Rattle.lists.proofs.Asking.{any-all, all-of}
 use Rattle.lists.proofs.Beginning.{place-inside, place-fits}
 use Rattle.blocks.specs.declared.deciding.Way.{Way}
 use Rattle.blocks.specs.declared.deciding.Way.the-variants.{Unjoinable, Dense, Diagonal, Rows}
+use Rattle.blocks.specs.declared.deciding.Join.{Join}
 use Rattle.blocks.specs.declared.running.Line.the-variants.{First, Diagonal as OnDiagonal}
 use Rattle.blocks.specs.declared.asking.Ask.the-variants.{Within, OfRank, Dense as AllDense, Sparse, Diagonal as AllDiagonal, DenseAxes, Stretches, Extent}
 use Rattle.blocks.specs.Blocks.{SoundAt, layoutsAt, placed, blocksBy}
 use Rattle.blocks.specs.Asked.{asked, otherwise}
 use Rattle.blocks.specs.Lines.{placeOn}
-use Rattle.blocks.specs.Joins.{rowsWay, wayOther, wayOf, agreeOn, denseBy, extentBy}
+use Rattle.blocks.specs.Joins.{rowsWay, wayOther, wayOf, agreeOn, denseBy, shapeBy, extentBy, joinOf}
 use Rattle.blocks.proofs.Asks.{length-layouts, layout-at, sound-at}
 use Rattle.blocks.proofs.Placed.{layouts-placed, shapes-placed}
 
@@ -68,7 +69,7 @@ laterTest l axis = all (λ x. eqb (getD (x .shape) axis 1) 1 || eqb (getD (x .sh
 
 module _ (rank n : ℕ) (records : List ℕ) (starts : List (List ℕ)) (s : List ℤ) where
   -- an axis agrees if each layout stretches to the extent to which dense blocks are joined
-  pub later-is : {a r axis common : ℕ} {b : Bool} → AxesTo (laterTest (layoutsAt n records s)) 1 r axis →
+  pub later-is : {r axis common : ℕ} {b : Bool} → AxesTo (laterTest (layoutsAt n records s)) 1 r axis →
       common ≡ extentBy Dense (blocksBy rankLimit n records starts s) axis →
       b ≡ all (asked (Stretches axis common)) (layoutsAt n records s) → b ≡ laterTest (layoutsAt n records s) axis
   later-is {axis = axis} {common} p e f =
@@ -77,13 +78,13 @@ module _ (rank n : ℕ) (records : List ℕ) (starts : List (List ℕ)) (s : Lis
       f ∙ rw is
 
   pub laters-are : {b : Bool} → b ≡ all (laterTest (layoutsAt n records s)) (from 1 (rank - 1)) → b ≡ laterAgree rank (shapesOf (blocksBy rank n records starts s))
+  unfolding all
   laters-are f = f ∙ rw (shapes-placed rank starts (layoutsAt n records s)) (each (from 1 (rank - 1)))
     where
       l : List Layout
       l = layoutsAt n records s
 
       each : (axes : List ℕ) → all (laterTest l) axes ≡ all (λ axis. all (λ shape. eqb (getD shape axis 1) 1 || eqb (getD shape axis 1) (laterExtent (map (λ y. y .shape) l) axis)) (map (λ y. y .shape) l)) axes
-      unfolding all
       each [] = refl
       each (axis ∷ axes) =
           rw (all-of (λ (shape : List ℕ). eqb (getD shape axis 1) 1 || eqb (getD shape axis 1) (laterExtent (map (λ y. y .shape) l) axis)) (λ (y : Layout). y .shape) l)
@@ -141,14 +142,14 @@ lasts r kept (x ∷ l) h e = decided (all (lastTest (x ∷ l)) (from kept (r - k
 
 module _ (n : ℕ) (records : List ℕ) (s : List ℤ) where
   -- an axis is asked of each layout with the extent of the first
-  pub last-is : {axis e : ℕ} {b : Bool} → EachAt SoundAt n records s → 0 < n →
+  pub last-is : (axis : ℕ) {e : ℕ} {b : Bool} → EachAt SoundAt n records s → 0 < n →
       e ≡ getD (layoutIn (take (length s - getD records 0 0) (drop (getD records 0 0) s)) .shape) axis 0 →
       b ≡ all (asked (Extent axis e)) (layoutsAt n records s) → b ≡ lastTest (layoutsAt n records s) axis
-  last-is {axis} p h f g = g ∙ rw (f, layout-at (p .inside) h)
+  last-is axis p h f g = g ∙ rw (f, layout-at (p .inside) h)
 
-  pub lasts-are : {r d kept : ℕ} {b : Bool} → EachAt SoundAt n records s → 0 < n → all (asked (OfRank r)) (layoutsAt n records s) ≡ true → kept ≡ r - d →
+  pub lasts-are : (r d : ℕ) {kept : ℕ} {b : Bool} → EachAt SoundAt n records s → 0 < n → all (asked (OfRank r)) (layoutsAt n records s) ≡ true → kept ≡ r - d →
       b ≡ all (lastTest (layoutsAt n records s)) (from kept (r - kept)) → b ≡ lastAgree (r - d) (map (λ x. x .shape) (layoutsAt n records s))
-  lasts-are {r} {d} {kept} p h f g e = e ∙ lasts r kept (layoutsAt n records s) (rw (length-layouts (p .inside)) h) f ∙ rw g
+  lasts-are r d {kept} p h f g e = e ∙ lasts r kept (layoutsAt n records s) (rw (length-layouts (p .inside)) h) f ∙ rw g
 
 pub ruleset last-laws = (axes-start, axes-turn, axes-stop, axes-done, last-is, lasts-are, not-true, not-false, place-inside, place-fits, sound-at)
 
@@ -158,18 +159,19 @@ pub ruleset last-laws = (axes-start, axes-turn, axes-stop, axes-done, last-is, l
 dense-axes : (d : ℕ) (l : List Layout) → all (asked (DenseAxes d)) l ≡ all (λ x. eqb (x .dense) d) (keep otherwise l)
 unfolding all keep
 dense-axes d [] = refl
-dense-axes d (x ∷ l) = by (isDense x) refl
+dense-axes d (x ∷ l) = by (isDense x) refl (dense-axes d l)
   where
-    by : (t : Bool) → isDense x ≡ t → all (asked (DenseAxes d)) (x ∷ l) ≡ all (λ y. eqb (y .dense) d) (keep otherwise (x ∷ l))
-    by true e = rw e (dense-axes d l)
-    by false e = rw e (ap (λ (t : Bool). eqb (x .dense) d && t) (dense-axes d l))
+    by : (t : Bool) → isDense x ≡ t → all (asked (DenseAxes d)) l ≡ all (λ y. eqb (y .dense) d) (keep otherwise l) →
+        all (asked (DenseAxes d)) (x ∷ l) ≡ all (λ y. eqb (y .dense) d) (keep otherwise (x ∷ l))
+    by true e f = rw e f
+    by false e f = rw e (ap (λ (t : Bool). eqb (x .dense) d && t) f)
 
-module _ {d r : ℕ} (l : List Layout) {a b c : Bool} (e : a ≡ all (asked (DenseAxes d)) l) where
+module _ (d r : ℕ) (l : List Layout) {a : Bool} (e : a ≡ all (asked (DenseAxes d)) l) where
   pub no-one-d : not a ≡ true → false ≡ agreeOn d r l
   unfolding agreeOn
   no-one-d f = rw (← dense-axes d l, ← e, not-true a f)
 
-  module _ (f : not a ≡ false) (g : b ≡ all (asked (OfRank r)) l) where
+  module _ (f : not a ≡ false) {b : Bool} (g : b ≡ all (asked (OfRank r)) l) where
     pub no-one-rank : not b ≡ true → false ≡ agreeOn d r l
     unfolding agreeOn
     no-one-rank h = rw (← dense-axes d l, ← e, not-false a f, ← g, not-true b h)
@@ -177,7 +179,7 @@ module _ {d r : ℕ} (l : List Layout) {a b c : Bool} (e : a ≡ all (asked (Den
     pub one-rank : not b ≡ false → all (asked (OfRank r)) l ≡ true
     one-rank h = sym g ∙ not-false b h
 
-    pub agrees : not b ≡ false → c ≡ lastAgree (r - d) (map (λ x. x .shape) l) → c ≡ agreeOn d r l
+    pub agrees : {c : Bool} → not b ≡ false → c ≡ lastAgree (r - d) (map (λ x. x .shape) l) → c ≡ agreeOn d r l
     unfolding agreeOn
     agrees h i = rw (← dense-axes d l, ← e, not-false a f, ← g, not-false b h) i
 
@@ -185,7 +187,7 @@ pub ruleset agree-laws = (no-one-d, no-one-rank, one-rank, agrees)
 
 -- ---- two tests
 
-module _ {a x y : Bool} (e : a ≡ x) where
+module _ {a x : Bool} (y : Bool) (e : a ≡ x) where
   pub not-both : not a ≡ true → false ≡ x && y
   not-both f = rw (← e, not-true a f)
 
@@ -268,14 +270,14 @@ pub ruleset way-laws = (way-above, way-dense, way-none, way-other)
 
 -- ---- the dense-axis count
 
-module _ {way : Way} (r : ℕ) (l : List Layout) {d : ℕ} where
+module _ {way : Way} (r : ℕ) (l : List Layout) where
   pub no-axes : way ≡ Unjoinable → 0 ≡ denseBy way r l
   no-axes e = rw e
 
   pub all-axes : way ≡ Dense → r ≡ denseBy way r l
   all-axes e = rw e
 
-  module _ (f : d ≡ firstD (keep otherwise l)) where
+  module _ {d : ℕ} (f : d ≡ firstD (keep otherwise l)) where
     pub axes-diagonal : way ≡ Diagonal → d ≡ denseBy way r l
     axes-diagonal e = f ∙ rw e
 
@@ -283,3 +285,16 @@ module _ {way : Way} (r : ℕ) (l : List Layout) {d : ℕ} where
     axes-rows e = f ∙ rw e
 
 pub ruleset axes-laws = (no-axes, all-axes, axes-diagonal, axes-rows)
+
+-- ---- the join
+
+-- a way, with the count and the extents that it has of blocks
+abbrev joinAs : ℕ → List Block → Way → List Layout → Join
+joinAs r blocks way l = record { way = way; dense = denseBy way r l; extents = fitTo rankLimit 0 (shapeBy way r blocks) }
+
+pub join-is : (r : ℕ) (starts : List (List ℕ)) (l : List Layout) {way : Way} {d : ℕ} {extents : List ℕ} →
+    way ≡ wayOf r (placed r starts l) → d ≡ denseBy way r l → extents ≡ fitTo rankLimit 0 (shapeBy way r (placed r starts l)) →
+    record { way = way; dense = d; extents = extents } ≡ joinOf r (placed r starts l)
+join-is r starts l {way} e f g =
+    let blocks : List Block = placed r starts l in
+    rw (f, g) (ap (λ (w : Way). joinAs r blocks w l) e ∙ ap (joinAs r blocks (wayOf r blocks)) (sym (layouts-placed r starts l)))
