@@ -176,14 +176,11 @@ module _ (d r : ℕ) (l : List Layout) {a : Bool} (e : a ≡ all (asked (DenseAx
     unfolding agreeOn
     no-one-rank h = rw (← dense-axes d l, ← e, not-false a f, ← g, not-true b h)
 
-    pub one-rank : not b ≡ false → all (asked (OfRank r)) l ≡ true
-    one-rank h = sym g ∙ not-false b h
-
     pub agrees : {c : Bool} → not b ≡ false → c ≡ lastAgree (r - d) (map (λ x. x .shape) l) → c ≡ agreeOn d r l
     unfolding agreeOn
     agrees h i = rw (← dense-axes d l, ← e, not-false a f, ← g, not-false b h) i
 
-pub ruleset agree-laws = (no-one-d, no-one-rank, one-rank, agrees)
+pub ruleset agree-laws = (no-one-d, no-one-rank, agrees)
 
 -- ---- two tests
 

@@ -1,8 +1,9 @@
 -- `last_agree`: the axes before this one do not differ.
 use Prim.Native.Nat.{_-_}
 use borrow.Author.Needs.{needs}
+use borrow.Author.Tests.{not-false}
 use Rattle.blocks.specs.Blocks.{layoutsAt}
-use Rattle.blocks.proofs.Ways.{AxesTo, lastTest, last-laws}
+use Rattle.blocks.proofs.Ways.{AxesTo, axes-turn, lastTest, last-is, last-laws}
 use Rattle.blocks.proofs.deciding.last_agree.Statement.{statement}
 use Rattle.blocks.proofs.deciding.last_agree.Tie as tie
 
@@ -49,7 +50,12 @@ loop-less : tie.Need-loop-less Inv-loop μ-loop
 loop-less c = search (needs, last-laws)
 
 loop-again : tie.Need-loop-again Inv-loop μ-loop
-loop-again c = search (needs, last-laws)
+loop-again c =
+    let ask = c .before in
+    let turn = ask .before .before .before in
+    let pre = turn .before .before .before .pre in
+    axes-turn (turn .before .loop .inv) (turn .loop-test .taken)
+    (last-is _ _ _ _ (pre .0 .0) (pre .0 .1) (ask .before .extent .ensures .0) (ask .all-pass .ensures)) (not-false _ (c .if1 .left))
 
 returns-2 : tie.Need-returns-2 Inv-loop μ-loop
 returns-2 c = search (needs, last-laws)
