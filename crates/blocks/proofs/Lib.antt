@@ -8,6 +8,7 @@
 --     Ways         the way in which blocks are joined
 --     Joined       what `concatenate` makes of blocks, by that way
 --     Given        the blocks of a call are the blocks at hand
+--     Answers      which numbers `concatenate` is refused with, and that what it gives is sound
 pub mod Told
 pub mod Asks
 pub mod Placed
@@ -17,3 +18,4 @@ pub mod Shapes
 pub mod Ways
 pub mod Joined
 pub mod Given
+pub mod Answers
