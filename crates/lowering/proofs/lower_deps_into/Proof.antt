@@ -117,4 +117,3 @@ lower-deps-into-spec =
     sort-into-requires
     same-length-2
     returns-2)
-
