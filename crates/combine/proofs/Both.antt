@@ -49,7 +49,7 @@ module _ {d : ℕ} {s : List ℤ} (q : BothAsked d s) where
   unfolding layoutAt
   lower-first = omega (arith, q .lower)
 
-  lower-second : d ≤ denseAt right s
+  pub lower-second : d ≤ denseAt right s
   unfolding layoutAt
   lower-second = omega (arith, q .lower)
 

@@ -198,5 +198,6 @@ module _ {at from to w n : ℕ} {s t : List ℤ} (a : KeepAsked at from to s) (w
   pub done : {i : ℕ} {u : List ℤ} → Walk at from to w n i t u → n ≤ i → Kept at from to s u
   done g h = record {
     table = rw (← w-is, ← filter-same cleared apart (a .filters), ← table-outside cleared from w (entries .fits .few) entries-apart) (all-kept g h);
+    ready = rw (← w-is) (g .taken .ready refl);
     only = rw (← w-is) (only-then cleared (g .taken .only));
   }

@@ -57,4 +57,5 @@ pub record KeepAsked (at from to : ℕ) (s : List ℤ) : Type 0 where
 -- the entries that the layout holds are the other table
 pub record Kept (at from to : ℕ) (s t : List ℤ) : Type 0 where
   pub table : tableAt to (rankAt at s + 1) t ≡ filterDeps (filterAt at s) (tableAt from (rankAt at s + 1) s)
+  pub ready : Ready to (rankAt at s + 1) t
   pub only : Only to (roomEnd to (rankAt at s + 1)) s t

@@ -58,6 +58,13 @@ module _ {at : ℕ} (d : ℕ) {s : List ℤ} (h : Holds at s) where
   unfolding layoutAt
   removes-by e o f = rw (← e, ne-eqb _ 1 o, f)
 
+-- where they are, D was larger
+pub above-dense : {at d n dense : ℕ} {s : List ℤ} → Holds at s → removesAxes (layoutAt at s) d ≡ true → n ≡ rankAt at s → dense ≡ denseAt at s → (d < dense) × (dense ≤ n)
+unfolding layoutAt
+above-dense {at} {d} {s} h e n-is dense-is =
+    let more = ltb-true d (denseAt at s) (both-true (not (isDiagonal (layoutAt at s))) (ltb d (denseAt at s)) e .1) in
+    (omega arith, omega (arith, dense-most h))
+
 -- ---- entries with ends in them
 
 -- the rows of a table are as long as its width
@@ -115,10 +122,7 @@ module _ {at d from to : ℕ} {s : List ℤ} (a : DepsAsked at d from to s) wher
 
     module _ (yes : r ≡ true) {dense : ℕ} (dense-is : dense ≡ denseAt at s) where
       pub above : (d < dense) × (dense ≤ n)
-      unfolding layoutAt
-      above =
-          let more = ltb-true d (denseAt at s) (both-true (not (isDiagonal l)) (ltb d (l .dense)) (sym r-is ∙ yes) .1) in
-          (omega arith, omega (arith, dense-most (a .holds)))
+      above = above-dense (a .holds) (sym r-is ∙ yes) n-is dense-is
 
       module _ {t : List ℤ} (e : t ≡ set s to (pos 0)) where
         abbrev w : ℕ

@@ -11,6 +11,7 @@ use lib.Seq.{take-nil, take-take, getD-drop}
 use Rattle.rules.specs.Limits.{productLimit}
 use Rattle.rules.specs.Lists.{allBelow, product}
 use Rattle.rules.specs.Buffers.{part, put}
+use Rattle.rules.specs.RowsInOrder.{In}
 use Rattle.rules.specs.Positions.{unravel}
 use Rattle.rules.specs.Removal.{positions}
 use Rattle.rules.proofs.Order.{ComparedNumbers, under, even, above, compareNumbers}
@@ -19,7 +20,7 @@ use Rattle.rules.proofs.Places.{in-at}
 use Rattle.rules.proofs.Ranges.{map-at}
 use Rattle.rules.proofs.Indices.{positions-only, positions-length}
 use Rattle.rules.proofs.Low.{below-at}
-use Rattle.rules.proofs.Changed.{take-low, drop-low, append-low}
+use Rattle.rules.proofs.Changed.{RowBelow, take-low, drop-low, append-low}
 use Rattle.cells.specs.View.{view, Low}
 use Rattle.tables.specs.Rows.{rowAt, HasRow}
 use Rattle.tables.specs.Tables.{Ready, Put}
@@ -31,20 +32,17 @@ use Rattle.lowering.proofs.Taking.{taken-none, taken-all, taken-next, t
 
 -- ---- numbers that are not negative
 
--- an index of a shape whose extents are small
-index-low : (axes : List ℕ) → ((k : ℕ) → getD axes k 0 ≤ productLimit) → (n : ℕ) → n < length (positions axes) → Low (getD (positions axes) n [])
-index-low axes f n h k = go (compareNumbers k (length index))
+-- an index of a shape whose extents are small has small components
+pub position-low : (axes : List ℕ) → ((k : ℕ) → getD axes k 0 ≤ productLimit) → {index : List ℕ} → In index (positions axes) → RowBelow productLimit index
+position-low axes f {index} m k = go (compareNumbers k (length index))
   where
-    index : List ℕ
-    index = getD (positions axes) n []
-
     is : (length index ≡ length axes) × (allBelow index axes ≡ true)
-    is = positions-only axes (in-at (positions axes) n h)
+    is = positions-only axes m
 
-    past : length index ≤ k → getD index k 0 < 2 ^ 31
+    past : length index ≤ k → getD index k 0 < productLimit
     past g = omega (arith, List·getD-eq-default index 0 g)
 
-    go : ComparedNumbers k (length index) → getD index k 0 < 2 ^ 31
+    go : ComparedNumbers k (length index) → getD index k 0 < productLimit
     go (under g) = omega (arith, below-at index axes (is .1) k g (omega (arith, is .0)), f k)
     go (even g) = past (omega arith)
     go (above g) = past (omega arith)
@@ -134,7 +132,7 @@ module _ {from read extents w rank size to width : ℕ} {row s : List ℤ} where
             let low = g .asked .row .low in
             rw next-is
             (append-low (take w old) (getD (positions axes) number [] ++ drop rank old) (take-low w old low)
-            (append-low (getD (positions axes) number []) (drop rank old) (index-low axes extent number inside) (drop-low rank old low)))
+            (append-low (getD (positions axes) number []) (drop rank old) (λ k. omega (arith, position-low axes extent (in-at (positions axes) number inside) k)) (drop-low rank old low)))
 
         pub full-row : HasRow 0 width next
         full-row =
