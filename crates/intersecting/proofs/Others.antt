@@ -53,11 +53,11 @@ makes-intersect = record { sound = intersect-sound; low = intersect-low }
 
 -- ---- the other one
 
-module _ (a : Layout) {t : Bool} (t-is : t ≡ isDense a) where
-  pub other-right : t ≡ true → right ≡ otherOf a
+module _ {dense t : Bool} (t-is : t ≡ dense) where
+  pub other-right : t ≡ true → right ≡ if dense right left
   other-right e = rw (← t-is, e)
 
-  pub other-left : t ≡ false → left ≡ otherOf a
+  pub other-left : t ≡ false → left ≡ if dense right left
   other-left e = rw (← t-is, e)
 
 -- a list of a layout as it stands
