@@ -12,9 +12,10 @@
 --     Gathering, Taking, Axes, Stretching, StretchedAlone, ToRank  which answer an operation gives of a sound layout, by plain cases
 --     Given                                                        that what they give is sound
 --     StretchedHolds, Full, ContractedHolds, PermutedHolds         what is held then
+--     Giving, Unchanged, Folding, BroadcastEnds                    a broadcast: what is stretched, folded in order, and its end
 --     Determined                                                   two outcomes that a contract allows are equal
 --     WorkedByHand, Examples                                       the table, and examples of every operation
---     Refusing, RefusedWith, Never14                               which numbers are given, and that 14 never is
+--     Refusing, RefusedWith, BroadcastRefused, Never14             which numbers are given, and that 14 never is
 pub mod Order
 pub mod Same
 pub mod Sets
@@ -67,9 +68,14 @@ pub mod StretchedHolds
 pub mod Full
 pub mod ContractedHolds
 pub mod PermutedHolds
+pub mod Giving
+pub mod Unchanged
+pub mod Folding
+pub mod BroadcastEnds
 pub mod Determined
 pub mod WorkedByHand
 pub mod Refusing
 pub mod RefusedWith
+pub mod BroadcastRefused
 pub mod Never14
 mod Examples
