@@ -41,6 +41,12 @@ fn answer(
             work,
             out,
         ),
+        23 => ended(
+            layout::intersect(first, second, result, work),
+            result,
+            work,
+            out,
+        ),
         25 => ended(
             layout::permute(first, second, result, work),
             result,
