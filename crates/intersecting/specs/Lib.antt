@@ -1,0 +1,2 @@
+pub mod Intersecting
+pub mod Standin
