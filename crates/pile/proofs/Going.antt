@@ -56,15 +56,15 @@ work-only (given numbers) work h = cleared-front workSize work h
 work-only (refused n) work h = one-of (eqb n 1 || eqb n 2) work (over (zeros workSize) work) (only-same 0 workSize work) (cleared-front workSize work h)
 
 -- an exchange that was made gives the pile
-made-given : (v : Verdict (List ℤ)) {pile pile′ : List ℤ} → _≡_ {A = Verdict Unit} (given tt) (inForm (λ _. tt) v) → pile′ ≡ givenOr pile v → v ≡ given pile′
-made-given (given new) e f = ap given (sym f)
-made-given (refused n) e f = cc
+made-given : (v : Verdict (List ℤ)) (pile : List ℤ) {pile′ : List ℤ} → _≡_ {A = Verdict Unit} (given tt) (inForm (λ _. tt) v) → pile′ ≡ givenOr pile v → v ≡ given pile′
+made-given (given new) pile e f = ap given (sym f)
+made-given (refused n) pile e f = cc
 
 -- one that was refused leaves it, and is not counted
-refused-stays : (v : Verdict (List ℤ)) {n made : ℕ} {pile pile′ : List ℤ} → _≡_ {A = Verdict Unit} (refused n) (inForm (λ _. tt) v) → pile′ ≡ givenOr pile v →
+refused-stays : (v : Verdict (List ℤ)) (pile : List ℤ) {n made : ℕ} {pile′ : List ℤ} → _≡_ {A = Verdict Unit} (refused n) (inForm (λ _. tt) v) → pile′ ≡ givenOr pile v →
     record { made = made; pile = pile′ } ≡ oneMore (record { made = made; pile = pile }) v
-refused-stays (given new) e f = cc
-refused-stays (refused n) e f = rw f
+refused-stays (given new) pile e f = cc
+refused-stays (refused n) pile e f = rw f
 
 -- ---- all of them
 
@@ -76,6 +76,7 @@ pub record Going (pile pairs work : List ℤ) (made at : ℕ) (pile′ work′ :
   pub upto : at ≤ length pairs
   pub few : made ≤ at
   pub rest : exchangesFrom (record { made = made; pile = pile′ }) (drop at pairs) ≡ exchangesFrom (record { made = 0; pile = pile }) pairs
+  pub size : length pile′ ≡ length pile
   pub only : Only 0 workSize work work′
 
 -- none is yet
@@ -87,6 +88,7 @@ going-start pile {pairs} {work} h k = record {
   upto = omega arith;
   few = omega arith;
   rest = refl;
+  size = refl;
   only = only-same 0 workSize work;
 }
 
@@ -108,7 +110,7 @@ module _ {pile pairs work : List ℤ} {made at : ℕ} {pile′ work′ : List �
       ∙ ap (λ (l : List ℤ). first ∷ l) (drop-cons pairs (at + 1) (pos 0) second-there ∙ ap (λ (n : ℕ). second ∷ drop n pairs) e)
 
   module _ (first-low : mag first < 2 ^ 31) (second-low : mag second < 2 ^ 31) {r : Step} {pile″ work″ : List ℤ}
-      (x : Exchanged (exchangeCall pile′ (held first) (held second) (length work′)) pile′ work′ r pile″ work″) where
+      (same : length pile″ ≡ length pile′) (x : Exchanged (exchangeCall pile′ (held first) (held second) (length work′)) pile′ work′ r pile″ work″) where
     -- as it is asked of a working buffer of full size
     abbrev v : Verdict (List ℤ)
     v = exchangeCall pile′ first second workSize
@@ -136,7 +138,8 @@ module _ {pile pairs work : List ℤ} {made at : ℕ} {pile′ work′ : List �
       half = omega (arith, g .half);
       upto = omega (arith, second-there);
       few = omega (arith, g .few);
-      rest = next-rest (rw (made-given v (rw e at (asked .answer)) (asked .pile-is), add-one));
+      rest = next-rest (rw (made-given v pile′ (rw e at (asked .answer)) (asked .pile-is), add-one));
+      size = same ∙ g .size;
       only = next-only;
     }
 
@@ -148,7 +151,8 @@ module _ {pile pairs work : List ℤ} {made at : ℕ} {pile′ work′ : List �
       half = omega (arith, g .half);
       upto = omega (arith, second-there);
       few = omega (arith, g .few);
-      rest = next-rest (refused-stays v (rw e at (asked .answer)) (asked .pile-is));
+      rest = next-rest (refused-stays v pile′ (rw e at (asked .answer)) (asked .pile-is));
+      size = same ∙ g .size;
       only = next-only;
     }
 

@@ -23,10 +23,12 @@ same-length : tie.Need-same-length Inv-loop μ-loop
 same-length c = search needs
 
 returns-2 : tie.Need-returns-2 Inv-loop μ-loop
-returns-2 c = ?
+returns-2 c =
+    let odd = c .before .before .before in
+    all-odd _ _ _ (odd .before .if1 .left) (odd .if2 .taken) (c .before .clear .ensures)
 
 loop-holds : tie.Need-loop-holds Inv-loop μ-loop
-loop-holds c = ?
+loop-holds c = going-start _ (c .before .if1 .left) (c .if2 .left)
 
 mul-exchange : tie.Need-mul-exchange Inv-loop μ-loop
 mul-exchange c = search needs
@@ -35,13 +37,13 @@ shared-slice-copy-out-exchange : tie.Need-shared-slice-copy-out-exchange Inv-loo
 shared-slice-copy-out-exchange c = search needs
 
 add-exchange : tie.Need-add-exchange Inv-loop μ-loop
-add-exchange c = ?
+add-exchange c = omega (arith, second-there (c .before .before .before .loop .inv) (c .before .before .loop-test .taken))
 
 mul-exchange-2 : tie.Need-mul-exchange-2 Inv-loop μ-loop
-mul-exchange-2 c = ?
+mul-exchange-2 c = omega (arith, second-there (c .before .before .before .loop .inv) (c .before .before .loop-test .taken))
 
 shared-slice-copy-out-exchange-2 : tie.Need-shared-slice-copy-out-exchange-2 Inv-loop μ-loop
-shared-slice-copy-out-exchange-2 c = ?
+shared-slice-copy-out-exchange-2 c = second-there (c .before .before .before .loop .inv) (c .before .before .loop-test .taken)
 
 exchange-requires : tie.Need-exchange-requires Inv-loop μ-loop
 exchange-requires c κs = search needs
@@ -59,7 +61,12 @@ loop-less : tie.Need-loop-less Inv-loop μ-loop
 loop-less c = omega arith
 
 loop-again : tie.Need-loop-again Inv-loop μ-loop
-loop-again c = ?
+loop-again c =
+    let came = c .before .before .before in
+    let exchanged = came .before in
+    let arg = exchanged .before .before in
+    let turn = arg .before .before .before in
+    turn-made (turn .before .loop .inv) (turn .loop-test .taken) (arg .before .exchange-arg2 .given) (arg .exchange-arg3 .given) (came .pile .given) (exchanged .exchange .ensures) (c .enum-told .given .1)
 
 enum-told-2 : tie.Need-enum-told-2 Inv-loop μ-loop
 enum-told-2 c = search needs
@@ -71,7 +78,12 @@ loop-less-2 : tie.Need-loop-less-2 Inv-loop μ-loop
 loop-less-2 c = omega arith
 
 loop-again-2 : tie.Need-loop-again-2 Inv-loop μ-loop
-loop-again-2 c = ?
+loop-again-2 c =
+    let came = c .before .before .before in
+    let exchanged = came .before in
+    let arg = exchanged .before .before in
+    let turn = arg .before .before .before in
+    turn-refused (turn .before .loop .inv) (turn .loop-test .taken) (arg .before .exchange-arg2 .given) (arg .exchange-arg3 .given) (came .pile .given) (exchanged .exchange .ensures) (c .enum-told2 .given .1)
 
 clear-requires-2 : tie.Need-clear-requires-2 Inv-loop μ-loop
 clear-requires-2 c κs = search needs
@@ -83,7 +95,9 @@ same-length-3 : tie.Need-same-length-3 Inv-loop μ-loop
 same-length-3 c = search needs
 
 returns-3 : tie.Need-returns-3 Inv-loop μ-loop
-returns-3 c = ?
+returns-3 c =
+    let passed = c .before .before .before in
+    all-passed _ _ _ (passed .before .loop .inv) (passed .loop-test .left) (c .before .clear2 .ensures)
 
 pub exchange-all-spec : {M : Type 1} → statement M
 exchange-all-spec =

@@ -89,8 +89,7 @@ unite-requires : tie.Need-unite-requires
 unite-requires c κs =
     let back = c .before in
     let loaded = back .before in
-    let begin = startOf (loaded .before .before) in
-    (
+    let begin = startOf (loaded .before .before) in (
       pair-back (now (begin .args .work)) (begin .pre) (loaded .load-pair .ensures) (back .work .given .0) .holds,
       omega (arith, begin .pre, loaded-only (now (begin .args .work)) (begin .pre) (loaded .load-pair .ensures) (back .work .given .0) .size),
     )
