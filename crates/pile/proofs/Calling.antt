@@ -1,9 +1,8 @@
 -- What an exchange asks of the slots at two places is what `exchangeCall` asks. Assumes nothing.
-use mathlib.Core.Path.{_≡_, refl, sym, ap, _∙_}
+use mathlib.Core.Path.{_≡_, refl}
 use mathlib.Core.Bool.{Bool, true, false, not, _&&_, _||_}
 use mathlib.Core.List.{List, [], _∷_}
 use Prim.Native.Nat.{ℕ, _*_, _/_, _<_, _≤_}
-use native.Mathlib.Omega.{arith}
 use borrow.Author.Tests.{lt-ltb, le-ltb}
 use lib.IntN.{ℤ}
 use lib.ListN.{length}
@@ -11,9 +10,9 @@ use Rattle.rules.specs.declared.Step.{Step}
 use Rattle.rules.specs.declared.Step.the-variants.{Refused}
 use Rattle.rules.specs.declared.Refusal.the-variants.{ShortBuffer, WrongArgument}
 use Rattle.rules.specs.Limits.{resultSize, workSize}
-use Rattle.rules.specs.Buffers.{part, put, over, zeros}
+use Rattle.rules.specs.Buffers.{part, over, zeros}
 use Rattle.rules.specs.Refusals.{Verdict, given, refused, inForm, numberOf, _then_, _when_, lowest}
-use Rattle.rules.specs.Layout.{Layout, encode}
+use Rattle.rules.specs.Layout.{Layout}
 use Rattle.rules.specs.Record.{natural, layoutIn, sound, ordered}
 use Rattle.rules.specs.Arguments.{overRecord}
 use Rattle.rules.specs.Endings.{workAfter}

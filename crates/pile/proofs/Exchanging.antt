@@ -1,5 +1,5 @@
 -- How an exchange of two slots ends. Assumes nothing.
-use mathlib.Core.Path.{_≡_, refl, sym, ap, _∙_, subst}
+use mathlib.Core.Path.{_≡_, refl, sym, _∙_, subst}
 use mathlib.Core.Bool.{Bool, true, false, _||_}
 use mathlib.Core.List.{List}
 use Prim.Native.Nat.{ℕ, _+_, _-_, _≤_}
@@ -12,7 +12,7 @@ use Rattle.rules.specs.declared.Step.the-variants.{Done, Refused}
 use Rattle.rules.specs.declared.Written.the-variants.{Refused as NotWritten}
 use Rattle.rules.specs.Limits.{resultSize, workSize}
 use Rattle.rules.specs.Buffers.{part, put, over, zeros}
-use Rattle.rules.specs.Refusals.{Verdict, given, refused, inForm, numberOf, lowest}
+use Rattle.rules.specs.Refusals.{given, refused, inForm, numberOf, lowest}
 use Rattle.rules.specs.Layout.{encode}
 use Rattle.rules.specs.Arguments.{overRecord}
 use Rattle.rules.specs.Endings.{workAfter}
@@ -21,7 +21,7 @@ use Rattle.parts.specs.Parts.{target, layoutAt}
 use Rattle.parts.proofs.Ending.{Late, call-refused}
 use Rattle.parts.proofs.Lent.{lentOf}
 use Rattle.judging.proofs.SoundRecords.{over-first, over-second, NoneOver}
-use Rattle.pile.specs.Exchanging.{sixth, Both, bothOf, bothSaid, BothMade, withBoth, slotsCall, Exchanged}
+use Rattle.pile.specs.Exchanging.{sixth, bothOf, BothMade, withBoth, slotsCall, Exchanged}
 use Rattle.pile.proofs.Late.{late-both}
 
 -- a working buffer that was written and cleared, behind a refusal above 2

@@ -1,7 +1,7 @@
 -- `exchange_all`: the exchanges that are made so far, and the working buffer meanwhile. Assumes nothing.
 use mathlib.Core.Path.{_≡_, refl, sym, ap, _∙_}
 use mathlib.Core.Bool.{Bool, true, false, _||_}
-use mathlib.Core.List.{List, [], _∷_}
+use mathlib.Core.List.{List, _∷_}
 use Prim.Native.Nat.{ℕ, suc, _+_, _%_, _^_, _<_, _≤_}
 use native.Mathlib.Nat.{zero-add}
 use native.Mathlib.Numerals.{add-one}
@@ -17,7 +17,7 @@ use Rattle.rules.specs.declared.Refusal.{Refusal}
 use Rattle.rules.specs.declared.Refusal.the-variants.{ShortBuffer, WrongArgument}
 use Rattle.rules.specs.declared.Step.{Step}
 use Rattle.rules.specs.declared.Step.the-variants.{Done, Refused}
-use Rattle.rules.specs.Limits.{resultSize, workSize}
+use Rattle.rules.specs.Limits.{workSize}
 use Rattle.rules.specs.Lists.{if}
 use Rattle.rules.specs.Buffers.{over, zeros}
 use Rattle.rules.specs.Refusals.{Verdict, given, refused, inForm, numberOf, lowest}
@@ -29,7 +29,7 @@ use Rattle.cells.proofs.Signed.{held, back}
 use Rattle.tables.specs.Tables.{Only}
 use Rattle.tables.proofs.Only.{only-same, only-then, only-put}
 use Rattle.pile.specs.Pile.{Exchanges, givenOr, oneMore, exchangeCall, exchangesFrom, exchangeAllCall}
-use Rattle.pile.specs.Exchanging.{exchangeSays, Exchanged, AllExchanged}
+use Rattle.pile.specs.Exchanging.{Exchanged, AllExchanged}
 use Rattle.pile.proofs.Exchanging.{given-clear}
 
 -- one of two

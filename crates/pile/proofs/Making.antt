@@ -1,8 +1,8 @@
 -- Both layouts of an exchange made of two records: the ways out of `make_both`. Assumes nothing.
-use mathlib.Core.Path.{_≡_, refl, sym, ap, _∙_}
+use mathlib.Core.Path.{_≡_, refl, sym, _∙_}
 use mathlib.Core.Bool.{Bool, true, false, not, _&&_}
 use mathlib.Core.List.{List}
-use mathlib.Core.Logic.{inl, inr}
+use mathlib.Core.Logic.{inr}
 use Prim.Native.Nat.{ℕ, _≤_}
 use native.Mathlib.Omega.{arith}
 use borrow.Author.Tests.{not-true, not-false}
@@ -25,7 +25,7 @@ use Rattle.intersecting.specs.Intersecting.{OrderedWindow}
 use Rattle.tables.specs.Tables.{Only}
 use Rattle.tables.proofs.Only.{only-same, only-then, only-wider}
 use Rattle.records.specs.Sound.{SoundRecord}
-use Rattle.parts.specs.Parts.{windowSize, left, right, target, layoutAt, Holds, Window}
+use Rattle.parts.specs.Parts.{windowSize, left, right, target, layoutAt, Holds}
 use Rattle.parts.specs.Answers.{PairLoaded, Says}
 use Rattle.parts.proofs.Holds.{layout-outside, holds-outside}
 use Rattle.parts.proofs.Lent.{lentOf, backIn, back-layout, back-holds}

@@ -19,7 +19,7 @@ use Rattle.records.proofs.Sections.{sign-natural, sign-negative}
 use Rattle.pile.specs.Pile.{areTwoPlaces}
 use Rattle.pile.specs.declared.Slots.{Slots}
 use Rattle.pile.specs.declared.Slots.the-variants.{Two, Wrong}
-use Rattle.pile.specs.Slots.{SlotsIn, TwoSlots, SlotsAre}
+use Rattle.pile.specs.Slots.{TwoSlots, SlotsAre}
 
 -- a slot below the count lies in the pile
 slot-in : (i size : ℕ) → i < size / resultSize → i * resultSize + resultSize ≤ size

@@ -1,14 +1,13 @@
 -- Layouts of the working buffer stored into slots of the pile. Assumes nothing.
-use mathlib.Core.Path.{_≡_, _∙_, ap}
+use mathlib.Core.Path.{_≡_, _∙_}
 use mathlib.Core.List.{List}
 use Prim.Native.Nat.{ℕ, _+_, _-_, _≤_}
 use native.Mathlib.Omega.{arith}
 use lib.IntN.{ℤ}
 use lib.ListN.{length}
 use Rattle.rules.specs.Limits.{resultSize}
-use Rattle.rules.specs.Buffers.{over, put}
-use Rattle.rules.specs.Layout.{Layout, encode}
-use Rattle.rules.specs.Soundness.{Sound}
+use Rattle.rules.specs.Buffers.{put}
+use Rattle.rules.specs.Layout.{encode}
 use Rattle.rules.proofs.Encoded.{encode-short}
 use Rattle.cells.proofs.Buffers.{lent-over}
 use Rattle.parts.specs.Parts.{partSize, target, layoutAt, Holds}

@@ -1,7 +1,7 @@
 -- Two layouts at the front of the working buffer, lent to a step as its window; and their union moved to the sixth part. Assumes nothing.
-use mathlib.Core.Path.{_≡_, refl, sym, ap, _∙_}
+use mathlib.Core.Path.{_≡_, sym, ap, _∙_}
 use mathlib.Core.List.{List}
-use mathlib.Core.Logic.{inl, inr}
+use mathlib.Core.Logic.{inl}
 use Prim.Native.Nat.{ℕ, _+_, _≤_}
 use native.Mathlib.Omega.{arith}
 use lib.IntN.{ℤ}
@@ -13,7 +13,6 @@ use Rattle.rules.specs.Limits.{workSize}
 use Rattle.rules.specs.Buffers.{part, put}
 use Rattle.rules.specs.Refusals.{Verdict, given}
 use Rattle.rules.specs.Layout.{Layout}
-use Rattle.rules.specs.Endings.{stepSays}
 use Rattle.rules.specs.Union.{union}
 use Rattle.rules.proofs.Buffers.{length-part, part-put-all}
 use Rattle.tables.specs.Tables.{Only}

@@ -1,6 +1,6 @@
 -- `store_both`: one slot after the other.
 use native.Mathlib.Omega.{arith}
-use Rattle.parts.proofs.Lent.{lent-part-layout, lent-part-holds}
+use Rattle.parts.proofs.Lent.{lent-part-holds}
 use Rattle.pile.proofs.Storing.{both-stored}
 use borrow.Author.Needs.{needs}
 use Rattle.pile.proofs.store_both.Statement.{statement}

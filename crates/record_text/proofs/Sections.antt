@@ -18,10 +18,10 @@ use Rattle.rules.proofs.ReadBack.{layout-sound, record-and-rest, walk-sound}
 use Rattle.rules.proofs.Buffers.{length-part}
 use Rattle.text.specs.Written.{lineText}
 use Rattle.text.specs.Placed.{Wrote}
-use Rattle.union_records.specs.Lines.{layoutText}
-use Rattle.union_records.specs.Fronts.{Front}
-use Rattle.union_records.specs.Sections.{lineFrom, fiveLines, InTurn}
-use Rattle.union_records.proofs.Fronts.{front-none, front-wrote}
+use Rattle.record_text.specs.Lines.{layoutText}
+use Rattle.record_text.specs.Fronts.{Front}
+use Rattle.record_text.specs.Sections.{lineFrom, fiveLines, InTurn}
+use Rattle.record_text.proofs.Fronts.{front-none, front-wrote}
 
 -- a line has at most 12 bytes for each number of its part, and one more
 pub part-wrote : (s : List ℤ) (from to : ℕ) {at r : ℕ} {old now : List ℕ} → from ≤ to → to ≤ length s →

@@ -1,8 +1,8 @@
 -- `write_part`: a part has as many numbers as lie between its places.
 use borrow.Author.Needs.{needs}
-use Rattle.union_records.proofs.Sections.{part-wrote}
-use Rattle.union_records.proofs.write_part.Statement.{statement}
-use Rattle.union_records.proofs.write_part.Tie as tie
+use Rattle.record_text.proofs.Sections.{part-wrote}
+use Rattle.record_text.proofs.write_part.Statement.{statement}
+use Rattle.record_text.proofs.write_part.Tie as tie
 
 mul-write-line : tie.Need-mul-write-line
 mul-write-line c = search needs

@@ -1,10 +1,10 @@
 -- `write_refusal`: the line of the number is written right behind the word.
 use native.Mathlib.Omega.{arith}
 use borrow.Author.Needs.{needs}
-use Rattle.union_records.proofs.Fronts.{front-is, front-wrote}
-use Rattle.union_records.proofs.Verdicts.{refused-line}
-use Rattle.union_records.proofs.write_refusal.Statement.{statement}
-use Rattle.union_records.proofs.write_refusal.Tie as tie
+use Rattle.record_text.proofs.Fronts.{front-is, front-wrote}
+use Rattle.record_text.proofs.Refusals.{refused-line}
+use Rattle.record_text.proofs.write_refusal.Statement.{statement}
+use Rattle.record_text.proofs.write_refusal.Tie as tie
 
 slice-aggregate-write-bytes : tie.Need-slice-aggregate-write-bytes
 slice-aggregate-write-bytes c = search needs

@@ -1,9 +1,9 @@
 -- `write_lines`: each line is written right behind the one before it.
 use native.Mathlib.Omega.{arith}
 use borrow.Author.Needs.{needs}
-use Rattle.union_records.proofs.Sections.{five-wrote}
-use Rattle.union_records.proofs.write_lines.Statement.{statement}
-use Rattle.union_records.proofs.write_lines.Tie as tie
+use Rattle.record_text.proofs.Sections.{five-wrote}
+use Rattle.record_text.proofs.write_lines.Statement.{statement}
+use Rattle.record_text.proofs.write_lines.Tie as tie
 
 write-part-requires : tie.Need-write-part-requires
 write-part-requires c κs = search needs

@@ -3,10 +3,10 @@ use Prim.Native.Nat.{_-_}
 use native.Mathlib.Omega.{arith}
 use lib.ListN.{length}
 use borrow.Author.Needs.{needs}
-use Rattle.union_records.proofs.Fronts.{laws}
-use Rattle.union_records.proofs.Fronts.{Copied, copied-all}
-use Rattle.union_records.proofs.write_bytes.Statement.{statement}
-use Rattle.union_records.proofs.write_bytes.Tie as tie
+use Rattle.record_text.proofs.Fronts.{laws}
+use Rattle.record_text.proofs.Fronts.{Copied, copied-all}
+use Rattle.record_text.proofs.write_bytes.Statement.{statement}
+use Rattle.record_text.proofs.write_bytes.Tie as tie
 
 abbrev Inv-loop : tie.InvT-loop
 Inv-loop bytes out₀ i₀ out i = Copied bytes out₀ out i

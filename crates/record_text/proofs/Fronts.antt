@@ -8,7 +8,7 @@ use lib.ListN.{length, getD, take, drop, set, length-append, length-set}
 use lib.Seq.{take-at, take-suc, take-suc-set, take-length, length-take-le}
 use Rattle.io.specs.Counts.{Counts}
 use Rattle.text.specs.Placed.{putBytes, Wrote}
-use Rattle.union_records.specs.Fronts.{Front}
+use Rattle.record_text.specs.Fronts.{Front}
 
 -- bytes that are there are counted
 pub counted : (n : ℕ) (slice : List ℕ) → n ≤ length slice → Counts n slice

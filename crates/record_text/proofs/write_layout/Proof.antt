@@ -1,10 +1,10 @@
 -- `write_layout`: the places of the sections are those of the walk.
 use native.Mathlib.Omega.{arith}
 use borrow.Author.Needs.{needs}
-use Rattle.union_records.proofs.Sections.{not-broken, in-turn, lines-are}
-use Rattle.union_records.proofs.Fronts.{front-is}
-use Rattle.union_records.proofs.write_layout.Statement.{statement}
-use Rattle.union_records.proofs.write_layout.Tie as tie
+use Rattle.record_text.proofs.Sections.{not-broken, in-turn, lines-are}
+use Rattle.record_text.proofs.Fronts.{front-is}
+use Rattle.record_text.proofs.write_layout.Statement.{statement}
+use Rattle.record_text.proofs.write_layout.Tie as tie
 
 walk-record-requires : tie.Need-walk-record-requires
 walk-record-requires c κs = search needs
