@@ -34,7 +34,7 @@ unfolding workAfter numberOf
 given-clear o e = late-clear Unsound (omega arith) o e
 
 -- a slot as it is lent
-slot-lent : (a : ℕ) (pile : List ℤ) → lentOf a (a + resultSize) pile ≡ part a resultSize pile
+pub slot-lent : (a : ℕ) (pile : List ℤ) → lentOf a (a + resultSize) pile ≡ part a resultSize pile
 unfolding part
 slot-lent a pile = let n : a + resultSize - a ≡ resultSize = omega arith in rw n
 

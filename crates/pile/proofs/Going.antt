@@ -68,6 +68,13 @@ refused-stays (refused n) pile e f = rw f
 
 -- ---- all of them
 
+-- two numbers of a list, and those behind them
+pub two-there : (pairs : List ℤ) (at : ℕ) → at + 1 < length pairs → drop at pairs ≡ getD pairs at (pos 0) ∷ getD pairs (at + 1) (pos 0) ∷ drop (at + 2) pairs
+two-there pairs at h =
+    let e : suc (at + 1) ≡ at + 2 = omega arith in
+    drop-cons pairs at (pos 0) (omega arith) ∙ ap (λ (n : ℕ). getD pairs at (pos 0) ∷ drop n pairs) (sym (add-one at))
+    ∙ ap (λ (l : List ℤ). getD pairs at (pos 0) ∷ l) (drop-cons pairs (at + 1) (pos 0) h ∙ ap (λ (n : ℕ). getD pairs (at + 1) (pos 0) ∷ drop n pairs) e)
+
 -- so many are made, up to a place of the list
 pub record Going (pile pairs work : List ℤ) (made at : ℕ) (pile′ work′ : List ℤ) : Type 0 where
   pub long : workSize ≤ length work
@@ -103,12 +110,6 @@ module _ {pile pairs work : List ℤ} {made at : ℕ} {pile′ work′ : List �
   pub second-there : at + 1 < length pairs
   second-there = omega (arith, g .even, g .half)
 
-  pair-there : drop at pairs ≡ first ∷ second ∷ drop (at + 2) pairs
-  pair-there =
-      let e : suc (at + 1) ≡ at + 2 = omega arith in
-      drop-cons pairs at (pos 0) h ∙ ap (λ (n : ℕ). first ∷ drop n pairs) (sym (add-one at))
-      ∙ ap (λ (l : List ℤ). first ∷ l) (drop-cons pairs (at + 1) (pos 0) second-there ∙ ap (λ (n : ℕ). second ∷ drop n pairs) e)
-
   module _ (first-low : mag first < 2 ^ 31) (second-low : mag second < 2 ^ 31) {r : Step} {pile″ work″ : List ℤ}
       (same : length pile″ ≡ length pile′) (x : Exchanged (exchangeCall pile′ (held first) (held second) (length work′)) pile′ work′ r pile″ work″) where
     -- as it is asked of a working buffer of full size
@@ -128,7 +129,7 @@ module _ {pile pairs work : List ℤ} {made at : ℕ} {pile′ work′ : List �
     next-rest : {e : Exchanges} → e ≡ oneMore (record { made = made; pile = pile′ }) v →
         exchangesFrom e (drop (at + 2) pairs) ≡ exchangesFrom (record { made = 0; pile = pile }) pairs
     unfolding exchangesFrom
-    next-rest f = ap (λ (e : Exchanges). exchangesFrom e (drop (at + 2) pairs)) f ∙ (rw pair-there at (g .rest))
+    next-rest f = ap (λ (e : Exchanges). exchangesFrom e (drop (at + 2) pairs)) f ∙ (rw (two-there pairs at second-there) at (g .rest))
 
     -- one more was made
     pub turn-made : r ≡ Done → Going pile pairs work (made + 1) (at + 2) pile″ work″
