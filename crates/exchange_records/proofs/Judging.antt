@@ -8,7 +8,7 @@ use borrow.Author.Tests.{lt-ltb, le-ltb, not-true, not-false, eqb-true}
 use lib.Dec.{eqb}
 use lib.IntN.{ℤ, pos, negsuc}
 use lib.ListN.{length, getD, take, drop, length-drop}
-use lib.Seq.{drop-drop, take-all}
+use lib.Seq.{drop-drop}
 use Rattle.rules.specs.Limits.{listLimit}
 use Rattle.rules.specs.Lists.{if}
 use Rattle.rules.specs.Record.{natural}
@@ -20,7 +20,7 @@ use Rattle.records.proofs.EndToEnd.{to-end}
 use Rattle.shapes.proofs.Reading.{as-natural, as-over, as-over-negative}
 use Rattle.text.specs.Read.{readText}
 use Rattle.record_text.specs.Lines.{refusedText}
-use Rattle.exchange_records.specs.Piles.{behindRecords, pileOf}
+use Rattle.exchange_records.specs.Piles.{behindRecords}
 use Rattle.exchange_records.specs.Exchanges.{exchangesText, arePairs, recordsText, listText, readingText, answerText}
 use Rattle.exchange_records.specs.Growing.{PileLoaded}
 

@@ -1,18 +1,18 @@
 -- Records loaded into the slots of a pile. Assumes nothing.
 use mathlib.Core.Path.{_≡_, refl, sym, ap, _∙_}
-use mathlib.Core.List.{List, [], _∷_, _++_, append-nil}
+use mathlib.Core.List.{List, _++_, append-nil}
 use Prim.Native.Nat.{ℕ, zero, suc, _+_, _*_, _-_, _<_, _≤_}
 use native.Mathlib.Numerals.{add-one}
 use native.Mathlib.Omega.{arith}
 use lib.IntN.{ℤ}
 use lib.ListN.{length, take, drop, length-append, length-take, length-drop, drop-of-length-le}
-use lib.Seq.{take-all, take-length, length-take-le}
+use lib.Seq.{take-all, length-take-le}
 use Rattle.rules.specs.declared.Walk.{Walk}
 use Rattle.rules.specs.declared.Walk.the-variants.{To, Broken}
 use Rattle.rules.specs.Limits.{resultSize, listLimit}
 use Rattle.rules.specs.Buffers.{over, zeros}
 use Rattle.rules.specs.Record.{walk, restFrom, behindRecord}
-use Rattle.rules.proofs.Buffers.{length-zeros, length-over}
+use Rattle.rules.proofs.Buffers.{length-zeros}
 use Rattle.records.specs.EndToEnd.{Behind}
 use Rattle.exchange_records.specs.Piles.{behindRecords, recordNumbers, slotWith, pileOf}
 use Rattle.exchange_records.specs.Growing.{PileLoaded}

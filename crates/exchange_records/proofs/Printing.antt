@@ -1,7 +1,7 @@
 -- The slots of a pile printed one after the other. Assumes nothing.
-use mathlib.Core.Path.{_≡_, refl, sym, ap, _∙_}
+use mathlib.Core.Path.{_≡_, refl, sym, _∙_}
 use mathlib.Core.Bool.{Bool, true, false, not}
-use mathlib.Core.List.{List, [], _++_}
+use mathlib.Core.List.{List}
 use Prim.Native.Nat.{ℕ, _+_, _*_, _-_, _/_, _<_, _≤_}
 use native.Mathlib.Numerals.{add-one}
 use native.Mathlib.Omega.{arith}
@@ -11,7 +11,6 @@ use lib.ListN.{length, take, drop, length-append, length-take, length-drop}
 use lib.Seq.{length-take-le}
 use Rattle.rules.specs.Limits.{resultSize, listLimit}
 use Rattle.rules.specs.Record.{layoutIn, sound}
-use Rattle.pile.specs.Pile.{slotAt}
 use Rattle.pile.proofs.Exchanging.{slot-lent}
 use Rattle.record_text.specs.Lines.{layoutText, refusedText}
 use Rattle.record_text.specs.Fronts.{Front}

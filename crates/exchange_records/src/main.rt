@@ -26,13 +26,7 @@ fn main() {
     let mut work = [0i32; rules::WORK_SIZE];
     let mut out = [0u8; 1048576];
     let size = io::read_full(0, &mut text);
-    let end = answer(
-        &text[..size],
-        &mut numbers,
-        &mut pile,
-        &mut work,
-        &mut out,
-    );
+    let end = answer(&text[..size], &mut numbers, &mut pile, &mut work, &mut out);
     io::write_all(1, &out[..end]);
 }
 

@@ -1,7 +1,6 @@
 -- `load_pile`: each turn is one record and its slot.
 use Prim.Native.Nat.{_-_}
 use native.Mathlib.Omega.{arith}
-use borrow.Author.Needs.{needs}
 use Rattle.exchange_records.proofs.Loading.{Loading, loading-start, further-on, loading-turn, loading-done}
 use Rattle.exchange_records.proofs.load_pile.Statement.{statement}
 use Rattle.exchange_records.proofs.load_pile.Tie as tie

@@ -1,61 +1,56 @@
+-- `main`: the buffers are long enough.
+use mathlib.Core.Path.{sym}
+use Prim.Native.Nat.{ℕ, _≤_}
+use native.Mathlib.Nat.{le-of-eq}
+use lib.IntN.{ℤ, pos}
 use borrow.Author.Needs.{needs}
+use lib.ListN.{length, replicate, length-replicate}
 use Rattle.exchange_records.proofs.main.Statement.{statement}
 use Rattle.exchange_records.proofs.main.Tie as tie
-use Rattle.exchange_records.proofs.main.Reads as reads
-use Rattle.exchange_records.proofs.main.Lts as lts
-use Rattle.exchange_records.proofs.answer.Reads as answer-reads
-use Rattle.io.proofs.read_full.Reads as read-full-reads
-use Rattle.io.proofs.write_all.Reads as write-all-reads
 
--- src/main.rt:28:33
+-- the longest buffer, said so that it is not counted out
+out-long : 1048576 ≤ length (replicate {0} {A = ℕ} 1048576 0)
+out-long = le-of-eq (sym {0} {A = ℕ} (length-replicate {0} {A = ℕ} 1048576 0))
+
 slice-aggregate-read-full : tie.Need-slice-aggregate-read-full
 slice-aggregate-read-full c = search needs
 
--- src/main.rt:28:9
 read-full-requires : tie.Need-read-full-requires
 read-full-requires c κs = search needs
 
--- src/main.rt:30:9
 array-share-prefix-text : tie.Need-array-share-prefix-text
 array-share-prefix-text c = search needs
 
--- src/main.rt:30:9
 slice-aggregate-answer : tie.Need-slice-aggregate-answer
 slice-aggregate-answer c = search needs
 
--- src/main.rt:31:9
 slice-aggregate-answer-2 : tie.Need-slice-aggregate-answer-2
 slice-aggregate-answer-2 c = search needs
 
--- src/main.rt:32:9
 slice-aggregate-answer-3 : tie.Need-slice-aggregate-answer-3
 slice-aggregate-answer-3 c = search needs
 
--- src/main.rt:33:9
 slice-aggregate-answer-4 : tie.Need-slice-aggregate-answer-4
 slice-aggregate-answer-4 c = search needs
 
--- src/main.rt:34:9
 slice-aggregate-answer-5 : tie.Need-slice-aggregate-answer-5
-slice-aggregate-answer-5 c = ?
+slice-aggregate-answer-5 c = sym {0} {A = ℕ} (length-replicate {0} {A = ℕ} 1048576 0)
 
--- src/main.rt:29:9
 answer-requires : tie.Need-answer-requires
-answer-requires c κs = ?
+answer-requires c κs = (
+  sym {0} {A = ℕ} (length-replicate {0} {A = ℤ} 32768 (pos 0)),
+  (length-replicate {0} {A = ℤ} 28832 (pos 0), length-replicate {0} {A = ℤ} 10812 (pos 0), out-long),
+)
 
--- src/main.rt:36:22
 array-share-prefix-out : tie.Need-array-share-prefix-out
-array-share-prefix-out c = ?
+array-share-prefix-out c = c .before .before .before .before .answer .ensures .counts .0
 
--- src/main.rt:36:22
 slice-aggregate-write-all : tie.Need-slice-aggregate-write-all
-slice-aggregate-write-all c = ?
+slice-aggregate-write-all c = c .before .before .before .before .before .answer .ensures .counts .1
 
--- src/main.rt:36:5
 write-all-requires : tie.Need-write-all-requires
 write-all-requires c κs = search needs
 
--- src/main.rt:22:1
 returns : tie.Need-returns
 returns c = search needs
 

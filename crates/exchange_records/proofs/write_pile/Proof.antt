@@ -1,7 +1,6 @@
 -- `write_pile`: each turn is one slot.
 use Prim.Native.Nat.{_+_, _-_, _/_}
 use native.Mathlib.Omega.{arith}
-use borrow.Author.Needs.{needs}
 use lib.ListN.{length, length-take, length-drop}
 use Rattle.rules.specs.Limits.{resultSize}
 use Rattle.exchange_records.proofs.Growing.{backAt}
