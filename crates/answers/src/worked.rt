@@ -47,8 +47,29 @@ fn answer(
             work,
             out,
         ),
+        28 => of_range(request, at, result, work, out),
         _ => of_one(request, at, result, work, out),
     }
+}
+
+// The same for two records and a range.
+fn of_range(
+    request: &[i32],
+    at: [usize; 7],
+    result: &mut [i32],
+    work: &mut [i32],
+    out: &mut [u8],
+) -> usize {
+    let target = list(request, at[0]);
+    let source = list(request, at[1]);
+    let start = number(request, at[2]);
+    let end = number(request, at[3]);
+    ended(
+        layout::filter_deps_from(target, source, start, end, result, work),
+        result,
+        work,
+        out,
+    )
 }
 
 // The same where one slice is all that a call takes but for numbers; unknown if the operation is not there yet.

@@ -10,7 +10,7 @@ use Rattle.rules.specs.Lists.{if}
 use Rattle.rules.specs.Refusals.{Verdict, given, refused}
 use Rattle.rules.specs.Record.{natural}
 use Rattle.rules.specs.Arguments.{overCount}
-use Rattle.pile.specs.Pile.{givenOr, exchangeCall}
+use Rattle.rules.specs.Pile.{givenOr, exchangeCall}
 use Rattle.text.specs.Read.{Reading, numbers, other, readText}
 use Rattle.record_text.specs.Lines.{refusedText}
 use Rattle.exchange_records.specs.Piles.{behindRecords, pileOf, pileText}

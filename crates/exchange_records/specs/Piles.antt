@@ -7,7 +7,7 @@ use Rattle.rules.specs.Limits.{resultSize}
 use Rattle.rules.specs.Lists.{if}
 use Rattle.rules.specs.Buffers.{zeros}
 use Rattle.rules.specs.Record.{behindRecord, layoutIn, sound}
-use Rattle.pile.specs.Pile.{slotCount, slotAt}
+use Rattle.rules.specs.Pile.{slotCount, slotAt}
 use Rattle.record_text.specs.Lines.{layoutText, refusedText}
 
 -- ---- records end to end

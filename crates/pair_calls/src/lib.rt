@@ -1,4 +1,8 @@
-// The public functions that make one layout of two, module 8: both records are loaded into the window, and a step combines them there.
+// The public functions that make one layout of two. Module 8: both records are loaded into the window, and a step combines them there;
+// module 14: the step reads both where they lie, and makes the new layout in the first part of the working buffer.
+mod filter; // filter.rt: module 14
+
+pub use filter::filter_deps_from;
 ghost use lib.ListN.{length};
 ghost use Rattle.rules.specs.Refusals.{inForm};
 ghost use Rattle.rules.specs.Layout.{encode};

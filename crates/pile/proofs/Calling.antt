@@ -18,7 +18,7 @@ use Rattle.rules.specs.Arguments.{overRecord}
 use Rattle.rules.specs.Endings.{workAfter}
 use Rattle.rules.specs.Union.{union, unionCall}
 use Rattle.intersecting.specs.Standin.{intersect, intersectCall}
-use Rattle.pile.specs.Pile.{areTwoPlaces, exchangeCall}
+use Rattle.rules.specs.Pile.{areTwoPlaces, exchangeCall}
 use Rattle.pile.specs.Slots.{TwoSlots}
 use Rattle.pile.specs.Exchanging.{Both, bothOf, withBoth, slotsCall, Exchanged}
 

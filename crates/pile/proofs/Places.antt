@@ -16,7 +16,7 @@ use Rattle.cells.specs.declared.Sign.the-variants.{Natural, Negative}
 use Rattle.cells.specs.View.{signOf}
 use Rattle.cells.proofs.Signed.{held}
 use Rattle.records.proofs.Sections.{sign-natural, sign-negative}
-use Rattle.pile.specs.Pile.{areTwoPlaces}
+use Rattle.rules.specs.Pile.{areTwoPlaces}
 use Rattle.pile.specs.declared.Slots.{Slots}
 use Rattle.pile.specs.declared.Slots.the-variants.{Two, Wrong}
 use Rattle.pile.specs.Slots.{TwoSlots, SlotsAre}

@@ -19,7 +19,7 @@ use Rattle.intersecting.specs.Standin.{intersect}
 use Rattle.tables.specs.Tables.{Only}
 use Rattle.parts.specs.Parts.{left, right, target, layoutAt, Holds, Window}
 use Rattle.parts.specs.Answers.{Says}
-use Rattle.pile.specs.Pile.{Exchanges, givenOr}
+use Rattle.rules.specs.Pile.{Exchanges, givenOr}
 
 -- ---- two records
 

@@ -5,7 +5,7 @@ use Prim.Native.Nat.{ℕ, _+_, _*_, _/_, _≤_}
 use lib.IntN.{ℤ}
 use Rattle.rules.specs.Limits.{resultSize}
 use Rattle.rules.specs.Record.{natural}
-use Rattle.pile.specs.Pile.{areTwoPlaces}
+use Rattle.rules.specs.Pile.{areTwoPlaces}
 use Rattle.pile.specs.declared.Slots.{Slots}
 use Rattle.pile.specs.declared.Slots.the-variants.{Two, Wrong}
 

@@ -7,7 +7,7 @@ ghost use Rattle.rules.specs.Limits.{resultSize, workSize};
 ghost use Rattle.rules.specs.Buffers.{put};
 ghost use Rattle.rules.specs.Layout.{encode};
 ghost use Rattle.parts.specs.Parts.{target, layoutAt, Holds, Window};
-ghost use Rattle.pile.specs.Pile.{exchangeCall, exchangeAllCall};
+ghost use Rattle.rules.specs.Pile.{exchangeCall, exchangeAllCall};
 ghost use Rattle.pile.specs.Slots.{SlotsAre, SlotsIn};
 ghost use Rattle.pile.specs.Exchanging.{sixth, United, BothMade, slotsCall, Exchanged, AllExchanged};
 use cells::Sign;

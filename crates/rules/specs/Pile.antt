@@ -2,23 +2,23 @@
 -- same on a slice of records.
 use mathlib.Core.Bool.{Bool, true, false, not, _&&_, _||_}
 use mathlib.Core.List.{List, [], _∷_, map}
-use Prim.Native.Nat.{ℕ, suc, _*_, _/_, _%_}
+use Prim.Native.Nat.{ℕ, suc, _+_, _*_, _/_, _%_}
 use lib.IntN.{ℤ, pos, negsuc}
 use lib.ListN.{length, getD, set}
 use lib.Dec.{eqb, ltb}
 use Rattle.rules.specs.Limits.{resultSize, workSize}
-use Rattle.rules.specs.Lists.{none, keep, sum, same}
+use Rattle.rules.specs.Lists.{all, none, keep, below, sum, same}
 use Rattle.rules.specs.Buffers.{part, put}
 use Rattle.rules.specs.RowsInOrder.{increasing}
 use Rattle.rules.specs.Refusals.{Verdict, given, refused, _then_, _when_, lowest}
 use Rattle.rules.specs.Layout.{Layout, isDense, isSparse, soundLayout, encode}
-use Rattle.rules.specs.Record.{natural, nowhere}
+use Rattle.rules.specs.Record.{natural, layoutIn, nowhere, sound}
 use Rattle.rules.specs.Arguments.{shortWork}
 use Rattle.rules.specs.Endings.{Lookup, found, nothing}
 use Rattle.rules.specs.Lookup.{lookup}
 use Rattle.rules.specs.CountsAndForms.{nnz}
 use Rattle.rules.specs.Union.{unionCall}
-use Rattle.intersecting.specs.Standin.{intersectCall}
+use Rattle.rules.specs.Intersect.{intersectCall}
 
 -- ---- places
 
@@ -78,6 +78,18 @@ unfoldable pub exchanged : List Exchange → List Layout → List Layout
 exchanged [] pile = pile
 exchanged (x ∷ rest) pile = exchanged rest (givenOr pile (exchange (x .first) (x .second) pile))
 
+-- one where it is given, none where it is refused
+abbrev pub oneIfGiven : {A : Type 0} → Verdict A → ℕ
+oneIfGiven (given new) = 1
+oneIfGiven (refused n) = 0
+
+-- how many of them are made
+unfoldable pub exchangesMade : List Exchange → List Layout → ℕ
+exchangesMade [] pile = 0
+exchangesMade (x ∷ rest) pile =
+    let v : Verdict (List Layout) = exchange (x .first) (x .second) pile in
+    oneIfGiven v + exchangesMade rest (givenOr pile v)
+
 -- ---- what is counted
 
 abbrev pub isFound : Lookup → Bool
@@ -104,6 +116,14 @@ slotCount pile = length pile / resultSize
 
 abbrev pub slotAt : List ℤ → ℕ → List ℤ
 slotAt pile i = part (i * resultSize) resultSize pile
+
+-- each slot has a sound record
+abbrev pub soundSlots : List ℤ → Bool
+soundSlots pile = all (λ i. sound (slotAt pile i)) (below (slotCount pile))
+
+-- the layouts of the records in the slots
+abbrev pub layoutsIn : List ℤ → List Layout
+layoutsIn pile = map (λ i. layoutIn (slotAt pile i)) (below (slotCount pile))
 
 -- one exchange: 2, then 5, then as the two calls refuse; the new numbers of the whole pile
 unfoldable pub exchangeCall : List ℤ → ℤ → ℤ → ℕ → Verdict (List ℤ)
@@ -136,3 +156,9 @@ unfoldable pub exchangeAllCall : List ℤ → List ℤ → ℕ → Verdict Excha
 exchangeAllCall pile pairs work =
     lowest (2 when shortWork work ∷ 5 when eqb (length pairs % 2) 1 ∷ []) then λ _.
     given (exchangesFrom (record { made = 0; pile = pile }) pairs)
+
+-- the exchanges that such a list asks for
+unfoldable pub exchangesIn : List ℤ → List Exchange
+exchangesIn [] = []
+exchangesIn (first ∷ []) = []
+exchangesIn (first ∷ second ∷ pairs) = record { first = first; second = second } ∷ exchangesIn pairs
