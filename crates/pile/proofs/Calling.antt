@@ -17,7 +17,7 @@ use Rattle.rules.specs.Record.{natural, layoutIn, sound, ordered}
 use Rattle.rules.specs.Arguments.{overRecord}
 use Rattle.rules.specs.Endings.{workAfter}
 use Rattle.rules.specs.Union.{union, unionCall}
-use Rattle.intersecting.specs.Standin.{intersect, intersectCall}
+use Rattle.rules.specs.Intersect.{intersect, intersectCall}
 use Rattle.rules.specs.Pile.{areTwoPlaces, exchangeCall}
 use Rattle.pile.specs.Slots.{TwoSlots}
 use Rattle.pile.specs.Exchanging.{Both, bothOf, withBoth, slotsCall, Exchanged}

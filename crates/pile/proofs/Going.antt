@@ -23,7 +23,7 @@ use Rattle.rules.specs.Buffers.{over, zeros}
 use Rattle.rules.specs.Refusals.{Verdict, given, refused, inForm, numberOf, lowest}
 use Rattle.rules.specs.Endings.{workAfter}
 use Rattle.rules.specs.Union.{unionCall}
-use Rattle.intersecting.specs.Standin.{intersectCall}
+use Rattle.rules.specs.Intersect.{intersectCall}
 use Rattle.rules.proofs.Buffers.{length-zeros, put-front}
 use Rattle.cells.proofs.Signed.{held, back}
 use Rattle.tables.specs.Tables.{Only}

@@ -7,8 +7,8 @@ use Rattle.rules.specs.Refusals.{Verdict, given, refused, _then_, _when_, lowes
 use Rattle.rules.specs.Layout.{Layout}
 use Rattle.rules.specs.Record.{layoutIn, sound, ordered}
 use Rattle.rules.specs.Union.{union}
-use Rattle.intersecting.specs.Standin.{intersect}
-use Rattle.rules.proofs.RefusedWith.{union-refusing}
+use Rattle.rules.specs.Intersect.{intersect}
+use Rattle.rules.proofs.RefusedWith.{union-refusing, intersect-refusing}
 use Rattle.parts.proofs.Ending.{AboveTwo, Late}
 use Rattle.pile.specs.Exchanging.{Both, bothOf}
 
@@ -16,8 +16,7 @@ late-union : (a b : Layout) → Late (union a b)
 late-union = union-refusing AboveTwo (omega arith) (omega arith) (omega arith) (omega arith)
 
 late-intersect : (a b : Layout) → Late (intersect a b)
-unfolding intersect
-late-intersect a b = omega arith
+late-intersect = intersect-refusing AboveTwo (omega arith) (omega arith) (omega arith) (omega arith)
 
 -- one step after the other
 late-steps : (sound ordered : Bool) (u i : Verdict Layout) → Late u → Late i →

@@ -20,7 +20,7 @@ use Rattle.rules.specs.Layout.{Layout}
 use Rattle.rules.specs.Record.{layoutIn, sound, ordered}
 use Rattle.rules.specs.Endings.{stepSays}
 use Rattle.rules.specs.Union.{union}
-use Rattle.intersecting.specs.Standin.{intersect}
+use Rattle.rules.specs.Intersect.{intersect}
 use Rattle.intersecting.specs.Intersecting.{OrderedWindow}
 use Rattle.tables.specs.Tables.{Only}
 use Rattle.tables.proofs.Only.{only-same, only-then, only-wider}

@@ -15,7 +15,7 @@ use Rattle.rules.specs.Record.{layoutIn, sound, ordered}
 use Rattle.rules.specs.Arguments.{overRecord}
 use Rattle.rules.specs.Endings.{numberSays, workAfter}
 use Rattle.rules.specs.Union.{union}
-use Rattle.intersecting.specs.Standin.{intersect}
+use Rattle.rules.specs.Intersect.{intersect}
 use Rattle.tables.specs.Tables.{Only}
 use Rattle.parts.specs.Parts.{left, right, target, layoutAt, Holds, Window}
 use Rattle.parts.specs.Answers.{Says}

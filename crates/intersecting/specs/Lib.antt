@@ -1,2 +1,0 @@
-pub mod Intersecting
-pub mod Standin
