@@ -153,7 +153,7 @@ fn exchange_pairs(pairs: &[i32], pile: &mut [i32], work: &mut [i32], out: &mut [
     let mut at = 0;
     let mut k = 0;
     while k < pairs.len() {
-        let step = pile::exchange(pile, pairs[k], pairs[k + 1], work);
+        let step = layout::exchange(pile, pairs[k], pairs[k + 1], work);
         let end = at + LINE;
         at += write_step(step, &mut out[at..end]);
         k += 2;

@@ -16,7 +16,11 @@ part-store-slot-end : tie.Need-part-store-slot-end
 part-store-slot-end c = search needs
 
 store-slot-requires : tie.Need-store-slot-requires
-store-slot-requires c κs = (lent-part-holds (c .before .before .pre .0 .0), c .before .before .pre .1 .first-in)
+store-slot-requires c κs =
+    let a = c .before .before in
+    let union = lent-part-holds (a .pre .0 .0) in
+    let both = lent-part-holds (a .pre .0 .1) in
+    (search needs, a .pre .1 .first-in)
 
 sub-store-slot-2 : tie.Need-sub-store-slot-2
 sub-store-slot-2 c = search needs
@@ -30,7 +34,9 @@ part-store-slot-end-2 c = search needs
 store-slot-requires-2 : tie.Need-store-slot-requires-2
 store-slot-requires-2 c κs =
     let a = c .before .before .before .before .before .before in
-    (lent-part-holds (a .pre .0 .1), omega (arith, a .pre .1 .second-in, c .before .before .pile .given))
+    let union = lent-part-holds (a .pre .0 .0) in
+    let both = lent-part-holds (a .pre .0 .1) in
+    (search needs, omega (arith, a .pre .1 .second-in, c .before .before .pile .given))
 
 same-length : tie.Need-same-length
 same-length c = search needs
