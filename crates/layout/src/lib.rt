@@ -12,6 +12,8 @@ pub use list_calls::broadcast;
 pub use pair_calls::filter_deps_from;
 pub use pair_calls::intersect;
 pub use pair_calls::union;
+pub use pile::exchange;
+pub use pile::exchange_all;
 pub use record_calls::eq_nonzeros;
 pub use record_calls::eq_nonzeros_and_deps;
 pub use record_calls::find_nnz_index;
