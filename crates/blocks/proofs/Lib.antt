@@ -9,6 +9,7 @@
 --     Joined       what `concatenate` makes of blocks, by that way
 --     Given        the blocks of a call are the blocks at hand
 --     Answers      which numbers `concatenate` is refused with, and that what it gives is sound
+--     Formed       what is made of joined blocks, and when it is refused
 pub mod Told
 pub mod Asks
 pub mod Placed
@@ -19,3 +20,4 @@ pub mod Ways
 pub mod Joined
 pub mod Given
 pub mod Answers
+pub mod Formed

@@ -156,7 +156,7 @@ pub ruleset last-laws = (axes-start, axes-turn, axes-stop, axes-done, last-is, l
 -- ---- layouts agree
 
 -- those not dense have one D if each layout is dense or has it
-dense-axes : (d : ℕ) (l : List Layout) → all (asked (DenseAxes d)) l ≡ all (λ x. eqb (x .dense) d) (keep otherwise l)
+pub dense-axes : (d : ℕ) (l : List Layout) → all (asked (DenseAxes d)) l ≡ all (λ x. eqb (x .dense) d) (keep otherwise l)
 unfolding all keep
 dense-axes d [] = refl
 dense-axes d (x ∷ l) = by (isDense x) refl (dense-axes d l)
