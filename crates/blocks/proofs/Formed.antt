@@ -133,7 +133,7 @@ abbrev pub joinedFull : ℕ → List Block → Layout → Layout
 joinedFull r blocks l = withDeps (joinedDeps r (λ x. x .states) blocks) (joinedDeps r (λ x. x .inputs) blocks) l
 
 -- without rows and dependencies there is nothing to fit
-no-deps : (l : Layout) → DepsFit l []
+pub no-deps : (l : Layout) → DepsFit l []
 unfolding sorted
 no-deps l = record { lengths = each-nil _; increase = sorted-increasing [] }
 
@@ -341,7 +341,7 @@ module _ (r : ℕ) (blocks : List Block) (p : SoundBlocks r blocks) (few : r ≤
         by false = each-map (λ row. (length row ≡ r - blocksD blocks) × (allBelow row (map (reach blocks) (below r)) ≡ true)) (movedBy (b .start))
             (λ row q. (moved-length (b .start) row ∙ q .0, moved-in b m row q)) (rows-in b m)
 
-    rows-form : WellFormed (joinedRows r blocks)
+    pub rows-form : WellFormed (joinedRows r blocks)
     rows-form = record {
       kind-most = omega arith;
       dense-most = rw length-reach d-low;
