@@ -1,25 +1,25 @@
 -- What is made of joined blocks: when it is refused with 12, and when with 13. Assumes nothing.
 use mathlib.Core.Path.{_≡_, refl, sym, ap, _∙_, subst}
 use mathlib.Core.Bool.{Bool, true, false, not, _&&_, _||_}
-use mathlib.Core.List.{List, [], _∷_, _++_, map, List·Memᴰ, List·Memᴰ·head, List·Memᴰ·tail}
+use mathlib.Core.List.{List, [], _∷_, map, List·Memᴰ, List·Memᴰ·head, List·Memᴰ·tail, Memᴰ·of-map}
 use Prim.Native.Nat.{ℕ, zero, suc, _+_, _-_, _<_, _≤_}
 use native.Mathlib.Nat.{zero-add, le-trans}
 use native.Mathlib.Omega.{arith}
-use borrow.Author.Tests.{eqb-true, eqb-false, eq-eqb, ne-eqb, ltb-false, lt-leb}
-use lib.Dec.{eqb, ltb, leb}
-use lib.ListN.{length, getD, take, drop, length-map, length-append, length-drop, length-take}
+use borrow.Author.Tests.{eqb-true, ne-eqb, ltb-false, lt-leb}
+use lib.Dec.{eqb, ltb}
+use lib.ListN.{length, getD, take, length-map, length-append, length-drop, length-take}
 use lib.Seq.{getD-take}
 use Rattle.rules.specs.Limits.{rankLimit}
-use Rattle.rules.specs.Lists.{if, all, keep, gather, sum, largest, larger, from, below, allBelow, fitTo}
-use Rattle.rules.specs.RowsInOrder.{sorted, In, Each, Increasing}
+use Rattle.rules.specs.Lists.{if, all, gather, sum, largest, below, allBelow, fitTo}
+use Rattle.rules.specs.RowsInOrder.{sorted, Each}
 use Rattle.rules.specs.Refusals.{Verdict, given, refused, _then_, _when_, lowest}
-use Rattle.rules.specs.Layout.{Layout, rank, width, isDense, isDiagonal, isSparse, alike, withDeps, wellFormed, withinSizes, made}
+use Rattle.rules.specs.Layout.{Layout, rank, width, isDense, isDiagonal, isSparse, withDeps, withinSizes, made}
 use Rattle.rules.specs.Soundness.{DepsFit, WellFormed, Sound}
 use Rattle.rules.specs.Dependencies.{indexOf, onIndex}
-use Rattle.rules.specs.CountsAndForms.{dense, toDense, denseIfFull}
+use Rattle.rules.specs.CountsAndForms.{dense}
 use Rattle.rules.specs.Removal.{positions}
 use Rattle.rules.specs.Pairs.{expanded, lowered}
-use Rattle.rules.specs.Concatenate.{Block, layoutsOf, shapesOf, joinedShape, laterAxes, notDense, firstD, blocksD, agree, allDiagonal, joinDiagonal, movedBy, rowsOfBlock, movedRows, reach, joinedRows, joinedDeps}
+use Rattle.rules.specs.Concatenate.{Block, layoutsOf, shapesOf, joinedShape, notDense, blocksD, agree, allDiagonal, joinDiagonal, movedBy, rowsOfBlock, movedRows, reach, joinedRows, joinedDeps}
 use Rattle.rules.proofs.Same.{both-true, true-not-false}
 use Rattle.rules.proofs.Sets.{each-nil}
 use Rattle.rules.proofs.Tests.{all-each, all-at}
@@ -37,6 +37,7 @@ use Rattle.rules.proofs.Low.{below-at, at-below}
 use Rattle.rules.proofs.Forming.{bad-diagonal-made}
 use Rattle.lists.proofs.Asking.{all-of}
 use Rattle.lists.proofs.Common.{larger-is}
+use Rattle.blocks.proofs.Asks.{first-low}
 use Rattle.blocks.proofs.Ways.{dense-axes}
 use Rattle.blocks.proofs.Joined.{withJoined}
 
@@ -175,16 +176,6 @@ module _ (r : ℕ) (blocks : List Block) (p : SoundBlocks r blocks) (few : r ≤
 of-blocks : (test : Layout → Bool) (blocks : List Block) → all test (layoutsOf blocks) ≡ true → (b : Block) → List·Memᴰ b blocks → test (b .layout) ≡ true
 of-blocks test blocks e = all-each (λ (b : Block). test (b .layout)) (sym (all-of test (λ (b : Block). b .layout) blocks) ∙ e)
 
--- D is not above r if that of no block is
-first-low : (r : ℕ) (blocks : List Block) → ((b : Block) → List·Memᴰ b blocks → b .layout .dense ≤ r) → blocksD blocks ≤ r
-unfolding keep firstD
-first-low r [] h = omega arith
-first-low r (b ∷ blocks) h = by (isDense (b .layout)) refl (first-low r blocks (λ c m. h c (List·Memᴰ·tail m)))
-  where
-    by : (t : Bool) → isDense (b .layout) ≡ t → blocksD blocks ≤ r → blocksD (b ∷ blocks) ≤ r
-    by true e l = rw e l
-    by false e l = rw e (h b (List·Memᴰ·head refl))
-
 module _ (r : ℕ) (blocks : List Block) (p : SoundBlocks r blocks) (few : r ≤ rankLimit) (a : agree r blocks ≡ true) where
   -- all ranks are the asked one
   rank-one : (b : Block) → List·Memᴰ b blocks → rank (b .layout) ≡ r
@@ -203,7 +194,12 @@ module _ (r : ℕ) (blocks : List Block) (p : SoundBlocks r blocks) (few : r ≤
 
   -- and it is not above the rank
   d-low : blocksD blocks ≤ r
-  d-low = first-low r blocks (λ b m. omega (arith, p b m .layout .form .dense-most, rank-one b m))
+  d-low = first-low r (layoutsOf blocks) one
+    where
+      one : (x : Layout) → List·Memᴰ x (layoutsOf blocks) → x .dense ≤ r
+      one x i =
+          let k = Memᴰ·of-map (λ (b : Block). b .layout) blocks i in
+          subst (λ (y : Layout). y .dense ≤ r) (k .2) (omega (arith, p (k .0) (k .1) .layout .form .dense-most, rank-one (k .0) (k .1)))
 
   -- ---- diagonal
 

@@ -1,21 +1,21 @@
 -- The verdict on joined blocks, by the way in which they are joined. Assumes nothing.
 use mathlib.Core.Path.{_≡_, refl, sym, ap, _∙_, subst}
 use mathlib.Core.Bool.{Bool, true, false, not, _&&_}
-use mathlib.Core.List.{List, [], _∷_, map, List·Memᴰ, Memᴰ·of-map}
+use mathlib.Core.List.{List, [], map, Memᴰ·of-map}
 use Prim.Native.Nat.{ℕ, suc, _+_, _-_, _<_, _≤_}
 use native.Mathlib.Numerals.{add-one}
 use native.Mathlib.Omega.{arith}
 use lib.Dec.{eqb, ltb}
 use lib.IntN.{ℤ}
-use lib.ListN.{length, take, drop, length-map, length-take, length-drop}
+use lib.ListN.{length, drop, length-map, length-take, length-drop}
 use Rattle.rules.specs.Limits.{rankLimit}
 use Rattle.rules.specs.Lists.{if, all, any, product}
 use Rattle.rules.specs.RowsInOrder.{sorted}
 use Rattle.rules.specs.Refusals.{Verdict, given, refused, inForm, _then_}
-use Rattle.rules.specs.Layout.{Layout, rank, isDense, isSparse, withinSizes, made}
+use Rattle.rules.specs.Layout.{Layout, rank, isDense, isSparse, withinSizes}
 use Rattle.rules.specs.Soundness.{WellFormed}
 use Rattle.rules.specs.CountsAndForms.{dense, toDense, denseIfFull}
-use Rattle.rules.specs.Record.{naturals, layoutIn, sound, RawBlock, blockAt}
+use Rattle.rules.specs.Record.{sound, blockAt}
 use Rattle.rules.specs.Concatenate.{Block, layoutsOf, shapesOf, runOnFirst, runOnDiagonal, laterAgree, joinedShape, blocksD, agree, allDiagonal, joinDiagonal, joinedRows, joinBlocks, blockOf}
 use Rattle.rules.proofs.Same.{both-true}
 use Rattle.rules.proofs.Sets.{each-nil}

@@ -4,7 +4,7 @@
 --     Beginning    where things begin
 --     Asking       what is asked of them
 --     Common       the common shape of shapes
---     Starts       where blocks start
+--     Starts       where blocks start, and their flags
 pub mod Ending
 pub mod Entering
 pub mod Beginning

@@ -2,7 +2,7 @@
 mod walking; // walking.rt: where things begin
 mod asks; // asks.rt: what each of them has to pass
 mod agreeing; // agreeing.rt: the common shape of shapes
-mod starting; // starting.rt: where blocks start
+mod starting; // starting.rt: where blocks start, and their flags
 
 pub use agreeing::common_shape;
 pub use agreeing::larger;
@@ -11,6 +11,7 @@ pub use agreeing::shapes_agree;
 pub use asks::Ask;
 pub use asks::all_pass;
 pub use starting::block_starts;
+pub use starting::is_zero;
 pub use walking::Thing;
 pub use walking::behind_record;
 pub use walking::moved;
