@@ -6,7 +6,7 @@
 --     Sounding     that all of them are sound records
 --     Common       the common shape of shapes
 --     ByValue      the common shape, and any shape or index, by value
---     Starts       where blocks start
+--     Starts       where blocks start, and their flags
 pub mod Ending
 pub mod Entering
 pub mod Beginning
