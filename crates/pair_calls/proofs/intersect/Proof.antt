@@ -1,5 +1,4 @@
 -- `intersect`: what is judged, both records loaded and intersected in a window that is lent twice, and the end of the call.
-use mathlib.Core.Path.{_≡_}
 use mathlib.Core.Bool.{_||_}
 use native.Mathlib.Omega.{arith}
 use borrow.Author.Needs.{needs}
