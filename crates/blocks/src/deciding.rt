@@ -18,7 +18,6 @@ use super::asking::all_pass;
 use super::asking::first_d;
 use super::measuring::Fold;
 use super::measuring::Measure;
-use super::measuring::larger;
 use super::measuring::measure_all;
 use super::reading::extent;
 use super::running::Line;
@@ -57,7 +56,7 @@ fn extent_by(
             if axis == 0 {
                 return measure_all(Fold::Sum, Measure::First, s, records, n, starts);
             }
-            larger(
+            lists::larger(
                 1,
                 measure_all(Fold::Largest, Measure::Extent(axis), s, records, n, starts),
             )

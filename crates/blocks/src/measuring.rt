@@ -5,7 +5,6 @@ ghost use mathlib.Core.List.{map};
 ghost use Prim.Native.Nat.{ℕ, _<_, _≤_, _^_};
 ghost use lib.ListN.{length, getD};
 ghost use Rattle.rules.specs.Limits.{rankLimit, productLimit};
-ghost use Rattle.rules.specs.Lists.{larger};
 ghost use Rattle.rules.specs.Record.{layoutIn, sound};
 ghost use Rattle.blocks.specs.Blocks.{BlocksAt, blockWith, blocksBy};
 ghost use Rattle.blocks.specs.Measured.{measure, added, folded, Measurable, measureLimit, foldLimit};
@@ -25,16 +24,6 @@ pub enum Measure {
 pub enum Fold {
     Sum,
     Largest,
-}
-
-// The larger of two numbers.
-pub fn larger(x: usize, y: usize) -> usize
-    ensures { λ r. ⌜ r ≡ larger x y ⌝ }
-{
-    if x < y {
-        return y;
-    }
-    x
 }
 
 // The measure of the block with this start whose record is at the front of a slice.
@@ -58,7 +47,7 @@ fn added(how: Fold, total: usize, x: usize) -> usize
 {
     match how {
         Fold::Sum => total + x,
-        Fold::Largest => larger(total, x),
+        Fold::Largest => lists::larger(total, x),
     }
 }
 

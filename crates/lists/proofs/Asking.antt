@@ -94,7 +94,7 @@ unfolding any
 any-of test f [] = refl
 any-of test f (x ∷ l) = ap (λ (t : Bool). test (f x) || t) (any-of test f l)
 
-all-of : {A B : Type 0} (test : B → Bool) (f : A → B) (l : List A) → all test (map f l) ≡ all (λ x. test (f x)) l
+pub all-of : {A B : Type 0} (test : B → Bool) (f : A → B) (l : List A) → all test (map f l) ≡ all (λ x. test (f x)) l
 unfolding all
 all-of test f [] = refl
 all-of test f (x ∷ l) = ap (λ (t : Bool). test (f x) && t) (all-of test f l)

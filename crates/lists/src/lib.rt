@@ -6,6 +6,7 @@ mod agreeing; // agreeing.rt: the common shape of shapes
 mod starting; // starting.rt: where blocks start
 
 pub use agreeing::common_shape;
+pub use agreeing::larger;
 pub use agreeing::longest;
 pub use agreeing::shapes_agree;
 pub use asks::Ask;
