@@ -6,6 +6,8 @@
 --     Runs         starts that run along a line
 --     Shapes       the extents to which blocks are joined
 --     Ways         the way in which blocks are joined
+--     Joined       what `concatenate` makes of blocks, by that way
+--     Given        the blocks of a call are the blocks at hand
 pub mod Told
 pub mod Asks
 pub mod Placed
@@ -13,3 +15,5 @@ pub mod Measures
 pub mod Runs
 pub mod Shapes
 pub mod Ways
+pub mod Joined
+pub mod Given

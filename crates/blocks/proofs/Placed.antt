@@ -21,7 +21,7 @@ module _ (r : ℕ) where
   length-placed starts (x ∷ l) = ap suc (length-placed (drop 1 starts) l)
 
   -- block i has start i and layout i
-  placed-at : (starts : List (List ℕ)) (l : List Layout) (i : ℕ) (d : Block) (e : Layout) → i < length l →
+  pub placed-at : (starts : List (List ℕ)) (l : List Layout) (i : ℕ) (d : Block) (e : Layout) → i < length l →
       getD (placed r starts l) i d ≡ blockWith (take r (getD starts i [])) (getD l i e)
   unfolding placed
   placed-at starts [] i d e h = absurd (omega arith)

@@ -60,7 +60,7 @@ pub ruleset extent-laws = (no-extent, first-extent, later-extent, diagonal-exten
 -- ---- all axes
 
 -- the extents of two lists of axes are the same if those of each axis are
-map-from : (f g : ℕ → ℕ) (a n : ℕ) → ((k : ℕ) → a ≤ k → k < a + n → f k ≡ g k) → map f (from a n) ≡ map g (from a n)
+pub map-from : (f g : ℕ → ℕ) (a n : ℕ) → ((k : ℕ) → a ≤ k → k < a + n → f k ≡ g k) → map f (from a n) ≡ map g (from a n)
 unfolding from
 map-from f g a zero h = refl
 map-from f g a (suc n) h =

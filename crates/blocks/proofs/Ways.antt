@@ -111,7 +111,7 @@ lasts r kept (x ∷ l) h e = decided (all (lastTest (x ∷ l)) (from kept (r - k
     ends : (y : Layout) → rank y ≡ r → ((axis : ℕ) → kept ≤ axis → axis < r → getD (y .shape) axis 0 ≡ getD (x .shape) axis 0) → drop kept (x .shape) ≡ drop kept (y .shape)
     ends y f g =
         let first : rank x ≡ r = long x (List·Memᴰ·head refl) in
-        let size : length (drop kept (x .shape)) ≡ length (drop kept (y .shape)) = rw (length-drop, length-drop, first, f) in
+        let size : length (drop kept (x .shape)) ≡ length (drop kept (y .shape)) = rw (length-drop kept (x .shape), length-drop kept (y .shape), first, f) in
         ext-getD 0 (drop kept (x .shape)) (drop kept (y .shape)) size
         (λ k i. let inside : k < r - kept = rw (length-drop, first) at i in
         getD-drop kept (x .shape) k 0 ∙ sym (getD-drop kept (y .shape) k 0 ∙ g (kept + k) (omega arith) (omega arith)))
