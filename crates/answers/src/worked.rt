@@ -74,6 +74,15 @@ fn of_one(
             work,
             out,
         ),
+        27 => {
+            let rank = number(request, at[2]);
+            ended(
+                layout::concatenate(first, asked, rank, result, work),
+                result,
+                work,
+                out,
+            )
+        }
         _ => replies::word(b"unknown", out, 0),
     }
 }

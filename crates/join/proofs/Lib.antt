@@ -6,6 +6,9 @@
 --     Spare       a table that takes the one in the spare part
 --     Blocks      what one block gives
 --     AllBlocks   the entries of all blocks
+--     Forms       when what is made is well formed and within the sizes
+--     Frames      a layout made in the target
+--     Ways        the layout of each way
 pub mod Shifting
 pub mod Listing
 pub mod Sizes
@@ -13,3 +16,6 @@ pub mod Putting
 pub mod Spare
 pub mod Blocks
 pub mod AllBlocks
+pub mod Forms
+pub mod Frames
+pub mod Ways
