@@ -119,7 +119,7 @@ module _ {x : Listed} {r w : ℕ} {start : List ℕ} {block : List ℤ} (a : Blo
     }
 
   -- the start by value
-  start-length : length (naturals (take r block)) ≡ r
+  pub start-length : length (naturals (take r block)) ≡ r
   start-length = rw length-map (length-take-le r block (omega (arith, record-inside)))
 
   start-same : take r start ≡ naturals (take r block)

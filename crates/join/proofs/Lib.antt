@@ -9,6 +9,10 @@
 --     Forms       when what is made is well formed and within the sizes
 --     Frames      a layout made in the target
 --     Ways        the layout of each way
+--     RowForms    rows are below the extents that blocks reach
+--     Handing     the blocks of a call, one by one
+--     Knowing     what is known of blocks by the way in which they are joined
+--     Joins       blocks joined in the way that is theirs
 pub mod Shifting
 pub mod Listing
 pub mod Sizes
@@ -19,3 +23,7 @@ pub mod AllBlocks
 pub mod Forms
 pub mod Frames
 pub mod Ways
+pub mod RowForms
+pub mod Handing
+pub mod Knowing
+pub mod Joins

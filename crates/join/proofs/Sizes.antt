@@ -98,7 +98,7 @@ module _ {l : Layout} (p : Sound l) where
       by (is-diagonal k) = subst (Each (RowFits l)) (sym (rows-diagonal l k)) (diagonal-fits k)
       by (is-sparse k) = subst (Each (RowFits l)) (sym (rows-sparse l k)) (sparse-fits k)
 
--- ---- dependencies
+  -- ---- dependencies
 
   -- fitted to a rank, they are of that rank
   pub deps-of-rank : (r : ℕ) {deps : List (List ℕ)} → DepsFit l deps → DepsSmall l deps → Each (DepOfRank r) (fitted r deps)

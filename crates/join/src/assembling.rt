@@ -10,6 +10,7 @@ ghost use Rattle.rules.specs.CountsAndForms.{newScalar};
 ghost use Rattle.rules.specs.Concatenate.{joinBlocks, concatenate};
 ghost use Rattle.rules.specs.Refusals.{given};
 ghost use Rattle.rules.specs.declared.Step.the-variants.{Done};
+ghost use Rattle.cells.specs.View.{view, Low};
 ghost use Rattle.tables.specs.Rows.{rowAt};
 ghost use Rattle.parts.specs.Parts.{windowSize, target, rowsFrom, layoutAt};
 ghost use Rattle.parts.specs.Answers.{Says};
@@ -40,12 +41,7 @@ fn write_frame(window: &mut [i32], kind: usize, dense: usize, extents: [i32; 4],
     requires { ⌜ FrameAsked kind dense rank (now window) ⌝ }
     ensures { λ _. ⌜ FrameMade (bare kind dense (rowAt 0 rank extents)) (now (window .entry)) (now (window .exit)) ⌝ }
 {
-    moving::write_head(
-        &mut window[TARGET..SPARE],
-        kind,
-        dense,
-        &extents[0..rank],
-    );
+    moving::write_head(&mut window[TARGET..SPARE], kind, dense, &extents[0..rank]);
     cells::store(window, TARGET_ROWS, 0);
 }
 
@@ -226,6 +222,19 @@ fn join_rows(
     complete(s, places, n, starts, rank, window)
 }
 
+// Extents as a slice holds them.
+fn whole_extents(e: [usize; 4]) -> [i32; 4]
+    requires { ⌜ Low e × (length e ≡ 4) ⌝ }
+    ensures { λ r. ⌜ view r ≡ e ⌝ }
+{
+    [
+        cells::whole(e[0]),
+        cells::whole(e[1]),
+        cells::whole(e[2]),
+        cells::whole(e[3]),
+    ]
+}
+
 // One block or more are joined to one layout in the target.
 fn join_blocks(
     s: &[i32],
@@ -243,12 +252,7 @@ fn join_blocks(
     let way = join.way;
     let dense = join.dense;
     let e = join.extents;
-    let extents = [
-        cells::whole(e[0]),
-        cells::whole(e[1]),
-        cells::whole(e[2]),
-        cells::whole(e[3]),
-    ];
+    let extents = whole_extents(e);
     match way {
         Way::Unjoinable => Step::Refused(Refusal::Unjoinable),
         Way::Dense => join_bare(s, places, n, starts, 0, dense, extents, rank, window),

@@ -81,14 +81,7 @@ pub fn count_of(list: Listed, from: &[i32], head: Head, rank: usize) -> usize
 }
 
 // Entry i of a list of a block.
-fn entry_of(
-    list: Listed,
-    from: &[i32],
-    head: Head,
-    rank: usize,
-    w: usize,
-    i: usize,
-) -> [i32; 5]
+fn entry_of(list: Listed, from: &[i32], head: Head, rank: usize, w: usize, i: usize) -> [i32; 5]
     requires { ⌜ ListAsked list head (now from) rank w ⌝ }
     requires { ⌜ i < length (listed list rank (layoutIn (now from))) ⌝ }
     ensures { λ r. ⌜ rowAt 0 w r ≡ getD (listed list rank (layoutIn (now (from .entry)))) i [] ⌝ }

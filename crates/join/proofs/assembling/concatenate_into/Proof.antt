@@ -1,34 +1,26 @@
+-- `concatenate_into`: the scalar, or the blocks joined.
+use Rattle.join.proofs.Joins.{none-said, ask-some, some-said}
 use borrow.Author.Needs.{needs}
 use Rattle.join.proofs.assembling.concatenate_into.Statement.{statement}
 use Rattle.join.proofs.assembling.concatenate_into.Tie as tie
-use Rattle.join.proofs.assembling.concatenate_into.Reads as reads
-use Rattle.join.proofs.assembling.concatenate_into.Lts as lts
-use Rattle.join.proofs.assembling.join_blocks.Reads as join-blocks-reads
-use Rattle.join.proofs.assembling.write_scalar.Reads as write-scalar-reads
 
--- src/assembling.rt:285:9
 write-scalar-requires : tie.Need-write-scalar-requires
 write-scalar-requires c κs = search needs
 
--- src/assembling.rt:286:9
 same-length : tie.Need-same-length
 same-length c = search needs
 
--- src/assembling.rt:286:9
 returns : tie.Need-returns
-returns c = ?
+returns c = let w = c .before in let i = w .before .before in none-said (i .before .pre) (i .if1 .taken) (w .write-scalar .ensures)
 
--- src/assembling.rt:288:5
 join-blocks-requires : tie.Need-join-blocks-requires
-join-blocks-requires c κs = search needs
+join-blocks-requires c κs = let i = c .before in ask-some (i .before .pre) (i .if1 .left)
 
--- src/assembling.rt:272:1
 same-length-2 : tie.Need-same-length-2
 same-length-2 c = search needs
 
--- src/assembling.rt:272:1
 returns-2 : tie.Need-returns-2
-returns-2 c = ?
+returns-2 c = let j = c .before in let i = j .before .before in some-said (i .before .pre) (i .if1 .left) (j .join-blocks .ensures)
 
 pub concatenate-into-spec : {M : Type 1} → statement M
 concatenate-into-spec =
