@@ -5,7 +5,7 @@
 --     Asking       what is asked of them
 --     Sounding     that all of them are sound records
 --     Common       the common shape of shapes
---     Starts       where blocks start
+--     Starts       where blocks start, and their flags
 pub mod Ending
 pub mod Entering
 pub mod Beginning
