@@ -80,7 +80,7 @@ fn left_out(list: Listed, block: &[i32], rank: usize) -> bool
     ensures { λ r. ⌜ r ≡ leftOut list (blockOf (blockAt rank (now (block .entry)))) ⌝ }
 {
     match list {
-        Listed::Rows => blocks::is_zero(block, rank),
+        Listed::Rows => lists::is_zero(block, rank),
         Listed::States => false,
         Listed::Inputs => false,
     }
