@@ -1,0 +1,4 @@
+-- The definitions that the contracts of join cite.
+pub mod Listing
+pub mod Merging
+pub mod Assembling
