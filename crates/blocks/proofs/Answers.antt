@@ -10,12 +10,12 @@ use lib.Seq.{getD-drop}
 use Rattle.rules.specs.Limits.{componentLimit}
 use Rattle.rules.specs.Lists.{if, all, any, none, keep, product, fitTo}
 use Rattle.rules.specs.RowsInOrder.{sorted, increasing, Each}
-use Rattle.rules.specs.Refusals.{Verdict, given, refused, inForm, _then_, _when_, lowest}
+use Rattle.rules.specs.Refusals.{Verdict, given, refused, _then_, _when_, lowest}
 use Rattle.rules.specs.Layout.{Layout, rank, isDense, isSparse, withDeps, made, soundLayout, wellFormed, withinSizes, withinProduct}
 use Rattle.rules.specs.Soundness.{Sound, DepsLow}
 use Rattle.rules.specs.Dependencies.{indexOf, onIndex}
 use Rattle.rules.specs.CountsAndForms.{dense, newScalar, denseIfFull}
-use Rattle.rules.specs.Concatenate.{Block, layoutsOf, shapesOf, runOnFirst, runOnDiagonal, laterAgree, joinedShape, joinDense, blocksD, agree, allDiagonal, joinDiagonal, movedBy, joinedRows, joinSparse, joinOther, joinedDeps, joinBlocks, concatenate}
+use Rattle.rules.specs.Concatenate.{Block, layoutsOf, shapesOf, runOnFirst, runOnDiagonal, laterAgree, joinDense, blocksD, agree, allDiagonal, movedBy, joinedRows, joinSparse, joinOther, joinedDeps, joinBlocks, concatenate}
 use Rattle.rules.proofs.Order.{ComparedNumbers, under, even, above, compareNumbers}
 use Rattle.rules.proofs.Sets.{each-nil}
 use Rattle.rules.proofs.Refusing.{Refusing, refusing-if, refusing-then, refusing-form, refusing-made}

@@ -1,19 +1,22 @@
 -- What is asked of every block. Assumes nothing.
-use mathlib.Core.Path.{_≡_, refl, sym, ap, _∙_}
+use mathlib.Core.Path.{_≡_, refl, sym, ap, _∙_, subst}
 use mathlib.Core.Bool.{Bool, true, false, not}
-use mathlib.Core.List.{List, [], _∷_, map}
+use mathlib.Core.List.{List, [], _∷_, List·Memᴰ, List·Memᴰ·head, List·Memᴰ·tail, Memᴰ·of-map}
 use Prim.Native.Nat.{ℕ, suc, _+_, _-_, _<_, _≤_}
 use native.Mathlib.Numerals.{add-one}
 use native.Mathlib.Omega.{arith}
-use borrow.Author.Tests.{eq-eqb, ne-eqb, ltb-true, ltb-false, lt-leb, le-leb, not-true, not-false}
+use borrow.Author.Tests.{eqb-true, ne-eqb, ltb-true, ltb-false, lt-leb, le-leb, not-true, not-false}
 use lib.Dec.{eqb, leb, ltb}
 use lib.IntN.{ℤ}
 use lib.ListN.{length, getD, take, drop, length-map, drop-of-length-le, List·getD-map}
 use lib.Seq.{drop-cons}
 use Rattle.rules.specs.Lists.{all, keep}
-use Rattle.rules.specs.Layout.{Layout, rank}
+use Rattle.rules.specs.Layout.{Layout, rank, isDense}
+use Rattle.rules.specs.Soundness.{Sound}
 use Rattle.rules.specs.Record.{layoutIn, sound}
 use Rattle.rules.specs.Concatenate.{firstD}
+use Rattle.rules.proofs.Tests.{all-each}
+use Rattle.rules.proofs.ReadBack.{layout-sound}
 use Rattle.tables.proofs.Passing.{Passed, none-passed, one-more, one-fails, all-passed}
 use Rattle.lists.specs.Places.{standing, Inside, EachAt}
 use Rattle.lists.proofs.Beginning.{length-standing, lent-at, place-inside, place-fits, known-at}
@@ -31,15 +34,6 @@ at-most n r = by (ltb r n) refl
     by : (t : Bool) → ltb r n ≡ t → leb n r ≡ not t
     by true e = lt-leb n r (ltb-true r n e)
     by false e = le-leb n r (ltb-false r n e)
-
-module _ (l : Layout) (axis common : ℕ) {e : ℕ} (f : e ≡ getD (l .shape) axis 1) where
-  pub stretches-one : e ≡ 1 → true ≡ asked (Stretches axis common) l
-  stretches-one g = rw (← f, g)
-
-  pub stretches-other : (e ≡ 1 → ⊥) → eqb e common ≡ asked (Stretches axis common) l
-  stretches-other g = rw (← f, ne-eqb e 1 g)
-
-pub ruleset stretch-laws = (stretches-one, stretches-other)
 
 -- it is asked as the test says
 module _ {ask : Ask} (l : Layout) where
@@ -68,13 +62,17 @@ module _ {ask : Ask} (l : Layout) where
     pub axes-asked : {d n : ℕ} → ask ≡ DenseAxes d → (k ≡ 0 → ⊥) → n ≡ l .dense → eqb n d ≡ asked ask l
     axes-asked e g h = rw (e, ← f, ne-eqb k 0 g, h)
 
-  pub stretches-asked : {axis common : ℕ} {b : Bool} → ask ≡ Stretches axis common → b ≡ asked (Stretches axis common) l → b ≡ asked ask l
-  stretches-asked e f = f ∙ rw e
+  module _ {axis common e : ℕ} (f : e ≡ getD (l .shape) axis 1) (g : ask ≡ Stretches axis common) where
+    pub one-asked : e ≡ 1 → true ≡ asked ask l
+    one-asked h = rw (g, ← f, h)
+
+    pub common-asked : (e ≡ 1 → ⊥) → eqb e common ≡ asked ask l
+    common-asked h = rw (g, ← f, ne-eqb e 1 h)
 
   pub extent-asked : {axis v e : ℕ} → ask ≡ Extent axis e → v ≡ getD (l .shape) axis 0 → eqb v e ≡ asked ask l
   extent-asked e f = rw (e, f)
 
-pub ruleset asked-laws = (within-asked, rank-asked, dense-asked, sparse-asked, diagonal-asked, ones-asked, no-axes-asked, axes-asked, stretches-asked, extent-asked)
+pub ruleset asked-laws = (within-asked, rank-asked, dense-asked, sparse-asked, diagonal-asked, ones-asked, no-axes-asked, axes-asked, one-asked, common-asked, extent-asked)
 
 -- ---- the layouts at n places
 
@@ -104,7 +102,35 @@ sound-at p h = known-at SoundAt p h
 
 pub ruleset pass-laws = (pass-start, pass-turn, pass-stop, all-passed, not-true, not-false, place-inside, place-fits, sound-at)
 
+-- what is known at each place is known of each element
+each-known : {A : Type 0} (P : A → Type 0) (d : A) {x : A} {l : List A} → ((i : ℕ) → i < length l → P (getD l i d)) → List·Memᴰ x l → P x
+each-known P d f (List·Memᴰ·head e) = subst P (sym e) (f 0 (omega arith))
+each-known P d f (List·Memᴰ·tail m) = each-known P d (λ i h. f (suc i) (omega arith)) m
+
+-- so the layouts are sound
+layouts-sound : {n : ℕ} {records : List ℕ} {s : List ℤ} → EachAt SoundAt n records s → (l : Layout) → List·Memᴰ l (layoutsAt n records s) → Sound l
+layouts-sound {n} {records} {s} p l m =
+    let t = Memᴰ·of-map layoutIn (standing n records s) m in
+    subst Sound (t .2) (layout-sound (t .0) (each-known SoundAt [] (λ i h. p .known i (rw (length-standing (p .inside)) at h)) (t .1)))
+
 -- ---- the first one not dense
+
+-- D is not above r if that of no layout is
+pub first-low : (r : ℕ) (l : List Layout) → ((x : Layout) → List·Memᴰ x l → x .dense ≤ r) → firstD (keep otherwise l) ≤ r
+unfolding keep firstD
+first-low r [] h = omega arith
+first-low r (x ∷ l) h = by (isDense x) refl (first-low r l (λ y m. h y (List·Memᴰ·tail m)))
+  where
+    by : (t : Bool) → isDense x ≡ t → firstD (keep otherwise l) ≤ r → firstD (keep otherwise (x ∷ l)) ≤ r
+    by true e k = rw e k
+    by false e k = rw e (h x (List·Memᴰ·head refl))
+
+-- so it is not above the rank of all
+pub first-within : {n : ℕ} {records : List ℕ} {s : List ℤ} {r d : ℕ} {b : Bool} → EachAt SoundAt n records s → d ≡ firstD (keep otherwise (layoutsAt n records s)) →
+    b ≡ all (asked (OfRank r)) (layoutsAt n records s) → not b ≡ false → d ≤ r
+first-within {n} {records} {s} {r} {d} {b} p e f g =
+    let l : List Layout = layoutsAt n records s in
+    rw e (first-low r l (λ x m. omega (arith, layouts-sound p x m .form .dense-most, eqb-true (rank x) r (all-each (asked (OfRank r)) (sym f ∙ not-false b g) x m))))
 
 -- the first k layouts are dense
 pub record DenseTo (n k : ℕ) (l : List Layout) : Type 0 where

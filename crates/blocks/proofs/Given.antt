@@ -109,7 +109,7 @@ pub record Handed (rank n : ℕ) (places records : List ℕ) (starts : List (Lis
   pub begun : StartsOf (startsIn (blocksAt rank n places s)) starts
 
 -- a sound record is not empty
-sound-long : (t : List ℤ) → sound t ≡ true → 0 < length t
+pub sound-long : (t : List ℤ) → sound t ≡ true → 0 < length t
 unfolding sound walk sectionAt entriesFrom
 sound-long [] e = absurd (true-not-false e refl)
 sound-long (x ∷ t) e = omega arith

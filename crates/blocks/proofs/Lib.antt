@@ -9,6 +9,8 @@
 --     Joined       what `concatenate` makes of blocks, by that way
 --     Given        the blocks of a call are the blocks at hand
 --     Answers      which numbers `concatenate` is refused with, and that what it gives is sound
+--     Formed       what is made of joined blocks, and when it is refused
+--     Verdicts     the verdict on joined blocks, by the way in which they are joined
 pub mod Told
 pub mod Asks
 pub mod Placed
@@ -19,3 +21,5 @@ pub mod Ways
 pub mod Joined
 pub mod Given
 pub mod Answers
+pub mod Formed
+pub mod Verdicts

@@ -7,7 +7,7 @@ use native.Mathlib.Omega.{arith}
 use borrow.Author.Tests.{ne-eqb, ltb-true, ltb-false}
 use lib.Dec.{eqb, ltb}
 use lib.IntN.{ℤ}
-use lib.ListN.{length, getD, take, drop, set, replicate}
+use lib.ListN.{getD, drop, set, replicate}
 use lib.Seq.{getD-take}
 use Rattle.rules.specs.Limits.{rankLimit}
 use Rattle.rules.specs.Lists.{if, sum, larger, largest, from, below, fitTo}

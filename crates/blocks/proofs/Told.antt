@@ -1,6 +1,6 @@
 -- What the record of a block says, number by number. Assumes nothing.
 use mathlib.Core.Path.{_≡_, refl, sym, ap, _∙_}
-use mathlib.Core.Bool.{Bool, true, false}
+use mathlib.Core.Bool.{true, false}
 use mathlib.Core.List.{List, [], _∷_, _++_, map}
 use Prim.Native.Nat.{ℕ, zero, suc, _+_, _<_, _≤_}
 use native.Mathlib.Nat.{le-trans}
@@ -12,16 +12,10 @@ use lib.ListN.{length, getD, List·getD-eq-default}
 use Rattle.rules.specs.Limits.{rankLimit, productLimit}
 use Rattle.rules.specs.Lists.{all}
 use Rattle.rules.specs.Layout.{rank, section, encode}
-use Rattle.rules.specs.Record.{natural, layoutIn, sound, behindRecord, blockAt}
-use Rattle.rules.specs.Concatenate.{blockOf}
+use Rattle.rules.specs.Record.{natural, layoutIn, sound, behindRecord}
 use Rattle.rules.proofs.Extents.{extent-nonzero}
 use Rattle.rules.proofs.ReadBack.{layout-sound, record-and-rest}
 use Rattle.tables.proofs.Passing.{Passed, none-passed, one-more, one-fails, all-passed}
-
--- the flag of a block stands behind its start
-pub flag-read : (rank : ℕ) (s : List ℤ) {n : ℕ} → n ≡ natural (getD s rank (pos 0)) → eqb n 1 ≡ blockOf (blockAt rank s) .zero
-unfolding blockOf blockAt
-flag-read rank s e = rw e
 
 -- a number of a list that is in front
 in-front : (l a b c : List ℕ) (rest : List ℤ) (k d : ℕ) → k < length l → natural (getD (map pos (l ++ a ++ b ++ c) ++ rest) k (pos 0)) ≡ getD l k d
@@ -73,7 +67,7 @@ module _ (s : List ℤ) (e : sound s ≡ true) where
     pub extent-none : n ≤ axis → missing ≡ getD (layoutIn s .shape) axis missing
     extent-none l = sym (List·getD-eq-default (layoutIn s .shape) missing (omega arith))
 
-pub ruleset reading-laws = (flag-read, kind-read, dense-read, dense-few, rank-read, rank-few, extent-read, extent-few, extent-none)
+pub ruleset reading-laws = (kind-read, dense-read, dense-few, rank-read, rank-few, extent-read, extent-few, extent-none)
 
 -- ---- every extent is 1
 

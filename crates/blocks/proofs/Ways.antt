@@ -11,7 +11,7 @@ use lib.IntN.{ℤ}
 use lib.ListN.{length, getD, take, drop, length-drop}
 use lib.Seq.{getD-drop, ext-getD}
 use Rattle.rules.specs.Limits.{rankLimit}
-use Rattle.rules.specs.Lists.{if, all, any, keep, from, same, fitTo}
+use Rattle.rules.specs.Lists.{all, any, keep, from, same, fitTo}
 use Rattle.rules.specs.Layout.{Layout, rank, isDense}
 use Rattle.rules.specs.Record.{layoutIn}
 use Rattle.rules.specs.Concatenate.{Block, shapesOf, startAt, laterExtent, laterAgree, firstD, lastAgree, agree}
@@ -147,16 +147,16 @@ module _ (n : ℕ) (records : List ℕ) (s : List ℤ) where
       b ≡ all (asked (Extent axis e)) (layoutsAt n records s) → b ≡ lastTest (layoutsAt n records s) axis
   last-is axis p h f g = g ∙ rw (f, layout-at (p .inside) h)
 
-  pub lasts-are : (r d : ℕ) {kept : ℕ} {b : Bool} → EachAt SoundAt n records s → 0 < n → all (asked (OfRank r)) (layoutsAt n records s) ≡ true → kept ≡ r - d →
-      b ≡ all (lastTest (layoutsAt n records s)) (from kept (r - kept)) → b ≡ lastAgree (r - d) (map (λ x. x .shape) (layoutsAt n records s))
-  lasts-are r d {kept} p h f g e = e ∙ lasts r kept (layoutsAt n records s) (rw (length-layouts (p .inside)) h) f ∙ rw g
+  pub lasts-are : (r d : ℕ) {b : Bool} → EachAt SoundAt n records s → 0 < n → all (asked (OfRank r)) (layoutsAt n records s) ≡ true →
+      b ≡ all (lastTest (layoutsAt n records s)) (from (r - d) (r - (r - d))) → b ≡ lastAgree (r - d) (map (λ x. x .shape) (layoutsAt n records s))
+  lasts-are r d p h f e = e ∙ lasts r (r - d) (layoutsAt n records s) (rw (length-layouts (p .inside)) h) f
 
 pub ruleset last-laws = (axes-start, axes-turn, axes-stop, axes-done, last-is, lasts-are, not-true, not-false, place-inside, place-fits, sound-at)
 
 -- ---- layouts agree
 
 -- those not dense have one D if each layout is dense or has it
-dense-axes : (d : ℕ) (l : List Layout) → all (asked (DenseAxes d)) l ≡ all (λ x. eqb (x .dense) d) (keep otherwise l)
+pub dense-axes : (d : ℕ) (l : List Layout) → all (asked (DenseAxes d)) l ≡ all (λ x. eqb (x .dense) d) (keep otherwise l)
 unfolding all keep
 dense-axes d [] = refl
 dense-axes d (x ∷ l) = by (isDense x) refl (dense-axes d l)

@@ -35,18 +35,6 @@ pub enum Ask {
     Extent(usize, usize),
 }
 
-// Whether the extent of an axis is 1 or the common one.
-fn stretches(s: &[i32], axis: usize, common: usize) -> bool
-    requires { ⌜ sound (now s) ≡ true ⌝ }
-    ensures { λ r. ⌜ r ≡ asked (Ask.Stretches axis common) (layoutIn (now (s .entry))) ⌝ }
-{
-    let e = extent(s, axis, 1);
-    if e == 1 {
-        return true;
-    }
-    e == common
-}
-
 // Whether the layout of the record at the front of a slice passes.
 fn passes(ask: Ask, s: &[i32]) -> bool
     requires { ⌜ sound (now s) ≡ true ⌝ }
@@ -69,7 +57,13 @@ fn passes(ask: Ask, s: &[i32]) -> bool
             }
             dense_axes(s) == d
         }
-        Ask::Stretches(axis, common) => stretches(s, axis, common),
+        Ask::Stretches(axis, common) => {
+            let e = extent(s, axis, 1);
+            if e == 1 {
+                return true;
+            }
+            e == common
+        }
         Ask::Extent(axis, e) => extent(s, axis, 0) == e,
     }
 }

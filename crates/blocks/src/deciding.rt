@@ -4,15 +4,15 @@ ghost use mathlib.Core.Bool.{true, _&&_};
 ghost use mathlib.Core.List.{map};
 ghost use Prim.Native.Nat.{_-_, _<_, _≤_};
 ghost use Rattle.rules.specs.Limits.{rankLimit};
-ghost use Rattle.rules.specs.Lists.{all, fitTo};
-ghost use Rattle.rules.specs.Concatenate.{shapesOf, startAt, laterAgree, lastAgree};
+ghost use Rattle.rules.specs.Lists.{all, keep, fitTo};
+ghost use Rattle.rules.specs.Concatenate.{shapesOf, startAt, laterAgree, firstD, lastAgree};
 ghost use Rattle.cells.specs.View.{Low};
 ghost use Rattle.lists.specs.Places.{EachAt};
 ghost use Rattle.blocks.specs.Blocks.{SoundAt, layoutsAt, BlocksAt, blocksBy};
-ghost use Rattle.blocks.specs.Asked.{asked};
+ghost use Rattle.blocks.specs.Asked.{asked, otherwise};
 ghost use Rattle.blocks.specs.Measured.{foldLimit};
 ghost use Rattle.blocks.specs.Lines.{placeOn};
-ghost use Rattle.blocks.specs.Joins.{agreeOn, rowsWay, wayOther, wayOf, denseBy, shapeBy, extentBy, joinOf};
+ghost use Rattle.blocks.specs.Joins.{agreeOn, wayOther, wayOf, denseBy, shapeBy, extentBy, joinOf};
 use super::asking::Ask;
 use super::asking::all_pass;
 use super::asking::first_d;
@@ -105,24 +105,15 @@ fn later_agree(
     true
 }
 
-// What is left of a number, less another.
-fn less(x: usize, y: usize) -> usize
-    ensures { λ r. ⌜ r ≡ x - y ⌝ }
-{
-    if x < y {
-        return 0;
-    }
-    x - y
-}
-
 // Whether the last d extents of n layouts of one rank do not differ.
 fn last_agree(s: &[i32], records: [usize; 16], n: usize, rank: usize, d: usize) -> bool
     requires { ⌜ EachAt SoundAt n records (now s) × (0 < n) ⌝ }
     requires { ⌜ all (asked (Ask.OfRank rank)) (layoutsAt n records (now s)) ≡ true ⌝ }
+    requires { ⌜ d ≤ rank ⌝ }
     ensures { λ r. ⌜ r ≡ lastAgree (rank - d) (map (λ l. l .shape) (layoutsAt n records (now (s .entry)))) ⌝ }
 {
     let first = records[0];
-    let kept = less(rank, d);
+    let kept = rank - d;
     for axis in kept..rank {
         let e = extent(&s[first..], axis, 0);
         if !all_pass(Ask::Extent(axis, e), s, records, n) {
@@ -135,6 +126,7 @@ fn last_agree(s: &[i32], records: [usize; 16], n: usize, rank: usize, d: usize) 
 // Whether blocks that are not all dense agree, d being the D of the first one not dense.
 fn agree(s: &[i32], records: [usize; 16], n: usize, rank: usize, d: usize) -> bool
     requires { ⌜ EachAt SoundAt n records (now s) × (0 < n) ⌝ }
+    requires { ⌜ d ≡ firstD (keep otherwise (layoutsAt n records (now s))) ⌝ }
     ensures { λ r. ⌜ r ≡ agreeOn d rank (layoutsAt n records (now (s .entry))) ⌝ }
 {
     if !all_pass(Ask::DenseAxes(d), s, records, n) {
@@ -165,21 +157,7 @@ fn pass_along(
     starts_run(line, s, records, n, starts, rank)
 }
 
-// Whether n blocks can be joined by rows: those with dense axes only if all are sparse.
-fn way_rows(s: &[i32], records: [usize; 16], n: usize, d: usize) -> Way
-    requires { ⌜ EachAt SoundAt n records (now s) ⌝ }
-    ensures { λ r. ⌜ r ≡ rowsWay d (layoutsAt n records (now (s .entry))) ⌝ }
-{
-    if d == 0 {
-        return Way::Rows;
-    }
-    if all_pass(Ask::Sparse, s, records, n) {
-        return Way::Rows;
-    }
-    Way::Unjoinable
-}
-
-// The way of blocks that are not all dense one behind the other.
+// The way of blocks that are not all dense one behind the other: along the diagonal, or by rows, with dense axes only if all are sparse.
 fn way_other(
     s: &[i32],
     records: [usize; 16],
@@ -197,7 +175,13 @@ fn way_other(
     if pass_along(Ask::Diagonal, Line::Diagonal, s, records, n, starts, rank) {
         return Way::Diagonal;
     }
-    way_rows(s, records, n, d)
+    if d == 0 {
+        return Way::Rows;
+    }
+    if all_pass(Ask::Sparse, s, records, n) {
+        return Way::Rows;
+    }
+    Way::Unjoinable
 }
 
 // The way in which n blocks are joined to a layout of the asked rank.

@@ -8,4 +8,3 @@ mod deciding; // deciding.rt: the way in which blocks are joined
 pub use deciding::Join;
 pub use deciding::Way;
 pub use deciding::join_of;
-pub use reading::is_zero;

@@ -1,4 +1,4 @@
-// What stands in front of the record of a block, and what the record says.
+// What the record of a block says.
 ghost use mathlib.Core.Path.{_≡_};
 ghost use mathlib.Core.Bool.{true};
 ghost use Prim.Native.Nat.{_≤_};
@@ -7,15 +7,7 @@ ghost use lib.ListN.{getD};
 ghost use Rattle.rules.specs.Limits.{rankLimit, productLimit};
 ghost use Rattle.rules.specs.Lists.{all};
 ghost use Rattle.rules.specs.Layout.{rank};
-ghost use Rattle.rules.specs.Record.{layoutIn, sound, blockAt};
-ghost use Rattle.rules.specs.Concatenate.{blockOf};
-
-// Whether the block of the asked rank at the front of a slice is flagged as zero.
-pub fn is_zero(s: &[i32], rank: usize) -> bool
-    ensures { λ r. ⌜ r ≡ blockOf (blockAt rank (now (s .entry))) .zero ⌝ }
-{
-    shapes::natural_at(s, rank) == 1
-}
+ghost use Rattle.rules.specs.Record.{layoutIn, sound};
 
 // The kind of the record at the front of a slice.
 pub fn kind(s: &[i32]) -> usize

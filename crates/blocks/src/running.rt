@@ -1,7 +1,7 @@
 // Starts that run along a line.
 ghost use mathlib.Core.Path.{_≡_};
 ghost use Prim.Native.Nat.{_≤_};
-ghost use lib.ListN.{length, getD, take};
+ghost use lib.ListN.{length, take};
 ghost use Rattle.rules.specs.Limits.{rankLimit};
 ghost use Rattle.rules.specs.Lists.{same};
 ghost use Rattle.rules.specs.Concatenate.{startAt};

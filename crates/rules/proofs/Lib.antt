@@ -13,6 +13,7 @@
 --     Given                                                        that what they give is sound
 --     StretchedHolds, Full, IntersectHolds, ContractedHolds,
 --     PermutedHolds                                                what is held then
+--     Giving, Unchanged, Folding, BroadcastEnds                    a broadcast: what is stretched, folded in order, and its end
 --     Calls                                                        what calls answer of sound records
 --     Piled, PiledPairs, Summing, ExchangeMade, ExchangeKeeps,
 --     Piles                                                        the pile: any exchanges keep its counts
@@ -20,7 +21,7 @@
 --     PileByHand                                                   a pile exchanged by hand
 --     Determined                                                   two outcomes that a contract allows are equal
 --     WorkedByHand, Examples                                       the table, and examples of every operation
---     Refusing, RefusedWith, Never14                               which numbers are given, and that 14 never is
+--     Refusing, RefusedWith, BroadcastRefused, Never14             which numbers are given, and that 14 never is
 pub mod Order
 pub mod Same
 pub mod Sets
@@ -85,9 +86,14 @@ pub mod RecordPiles
 pub mod PileByHand
 pub mod ContractedHolds
 pub mod PermutedHolds
+pub mod Giving
+pub mod Unchanged
+pub mod Folding
+pub mod BroadcastEnds
 pub mod Determined
 pub mod WorkedByHand
 pub mod Refusing
 pub mod RefusedWith
+pub mod BroadcastRefused
 pub mod Never14
 mod Examples

@@ -55,17 +55,17 @@ dense-axes-requires c κs = search needs
 enum-known-ask-4 : tie.Need-enum-known-ask-4
 enum-known-ask-4 c = search needs
 
-stretches-requires : tie.Need-stretches-requires
-stretches-requires c κs = search needs
-
-enum-known-ask-5 : tie.Need-enum-known-ask-5
-enum-known-ask-5 c = search needs
-
 extent-requires : tie.Need-extent-requires
 extent-requires c κs = search needs
 
 returns-3 : tie.Need-returns-3
 returns-3 c = search (needs, asked-laws)
+
+enum-known-ask-5 : tie.Need-enum-known-ask-5
+enum-known-ask-5 c = search needs
+
+extent-requires-2 : tie.Need-extent-requires-2
+extent-requires-2 c κs = search needs
 
 returns-4 : tie.Need-returns-4
 returns-4 c = search (needs, asked-laws)
@@ -88,6 +88,9 @@ returns-9 c = search (needs, asked-laws)
 returns-10 : tie.Need-returns-10
 returns-10 c = search (needs, asked-laws)
 
+returns-11 : tie.Need-returns-11
+returns-11 c = search (needs, asked-laws)
+
 pub passes-spec : {M : Type 1} → statement M
 passes-spec =
     tie.close
@@ -109,14 +112,15 @@ passes-spec =
     returns-2
     dense-axes-requires
     enum-known-ask-4
-    stretches-requires
-    enum-known-ask-5
     extent-requires
     returns-3
+    enum-known-ask-5
+    extent-requires-2
     returns-4
     returns-5
     returns-6
     returns-7
     returns-8
     returns-9
-    returns-10)
+    returns-10
+    returns-11)

@@ -2,6 +2,7 @@
 use mathlib.Core.Path.{sym, _∙_}
 use borrow.Author.Needs.{needs}
 use borrow.Author.Tests.{not-false}
+use Rattle.blocks.proofs.Asks.{first-within}
 use Rattle.blocks.proofs.Ways.{agree-laws}
 use Rattle.blocks.proofs.deciding.agree.Statement.{statement}
 use Rattle.blocks.proofs.deciding.agree.Tie as tie
@@ -19,7 +20,11 @@ returns-2 : tie.Need-returns-2
 returns-2 c = search (needs, agree-laws)
 
 last-agree-requires : tie.Need-last-agree-requires
-last-agree-requires c κs = (c .before .before .before .before .pre, sym (c .before .all-pass2 .ensures) ∙ not-false _ (c .if2 .left))
+last-agree-requires c κs =
+    let ranks = c .before in
+    let pre = ranks .before .before .before .pre in
+    let one = sym (ranks .all-pass2 .ensures) ∙ not-false _ (c .if2 .left) in
+    (pre .0, (one, first-within (pre .0 .0) (pre .1) (ranks .all-pass2 .ensures) (c .if2 .left)))
 
 returns-3 : tie.Need-returns-3
 returns-3 c = search (needs, agree-laws)

@@ -16,8 +16,8 @@ abbrev μ-loop : tie.MeasureT-loop
 array-read-first : tie.Need-array-read-first Inv-loop μ-loop
 array-read-first c = search (needs, last-laws)
 
-less-requires : tie.Need-less-requires Inv-loop μ-loop
-less-requires c κs = search (needs, last-laws)
+sub-kept : tie.Need-sub-kept Inv-loop μ-loop
+sub-kept c = search (needs, last-laws)
 
 loop-holds : tie.Need-loop-holds Inv-loop μ-loop
 loop-holds c = search (needs, last-laws)
@@ -53,7 +53,7 @@ loop-again : tie.Need-loop-again Inv-loop μ-loop
 loop-again c =
     let ask = c .before in
     let turn = ask .before .before .before in
-    let pre = turn .before .before .before .pre in
+    let pre = turn .before .before .pre in
     axes-turn (turn .before .loop .inv) (turn .loop-test .taken)
     (last-is _ _ _ _ (pre .0 .0) (pre .0 .1) (ask .before .extent .ensures .0) (ask .all-pass .ensures)) (not-false _ (c .if1 .left))
 
@@ -67,7 +67,7 @@ last-agree-spec =
     Inv-loop
     μ-loop
     array-read-first
-    less-requires
+    sub-kept
     loop-holds
     mul-extent
     sub-extent
