@@ -11,9 +11,8 @@ use Rattle.rules.specs.Refusals.{Verdict, given, refused}
 use Rattle.rules.specs.Record.{natural}
 use Rattle.rules.specs.Arguments.{overCount}
 use Rattle.rules.specs.Pile.{givenOr, exchangeCall}
-use Rattle.text.specs.Read.{Reading, numbers, other}
+use Rattle.text.specs.Read.{Reading, numbers, other, readText}
 use Rattle.record_text.specs.Lines.{refusedText}
-use Rattle.record_text.specs.Texts.{textReading}
 use Rattle.exchange_records.specs.Piles.{behindRecords, pileOf, pileText}
 
 -- 'made', or why an exchange is refused
@@ -51,4 +50,4 @@ readingText other = refusedText 3
 
 -- too much text and other text than numbers are judged first
 unfoldable pub answerText : List ℕ → List ℕ
-answerText text = readingText (textReading text)
+answerText text = if (ltb 65536 (length text)) (refusedText 3) (readingText (readText text))
