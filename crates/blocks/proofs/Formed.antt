@@ -39,7 +39,7 @@ use Rattle.lists.proofs.Asking.{all-of}
 use Rattle.lists.proofs.Common.{larger-is}
 use Rattle.blocks.proofs.Asks.{first-low}
 use Rattle.blocks.proofs.Ways.{dense-axes}
-use Rattle.blocks.proofs.Joined.{withJoined}
+use Rattle.blocks.proofs.Joined.{withJoined, length-dense}
 
 -- a sound block, with a start of r numbers
 pub record SoundBlock (r : ℕ) (b : Block) : Type 0 where
@@ -141,19 +141,12 @@ no-deps l = record { lengths = each-nil _; increase = sorted-increasing [] }
 -- ---- dense
 
 module _ (r : ℕ) (blocks : List Block) (p : SoundBlocks r blocks) (few : r ≤ rankLimit) where
-  length-dense : length (joinedShape r blocks) ≡ r
-  length-dense = by r
-    where
-      by : (k : ℕ) → length (joinedShape k blocks) ≡ k
-      by zero = refl
-      by (suc k) = rw (ne-eqb (suc k) 0 (λ e. omega arith), length-map, from-length) (omega arith)
-
-  dense-form : WellFormed (dense (joinedShape r blocks))
+  pub dense-form : WellFormed (dense (joinedShape r blocks))
   unfolding dense sorted
   dense-form = record {
     kind-most = omega arith;
     dense-most = omega arith;
-    rank-most = omega (arith, length-dense);
+    rank-most = omega (arith, length-dense r blocks);
     sparse-rows = λ _. refl;
     rows-distinct = refl;
     row-lengths = each-nil _;
@@ -168,7 +161,7 @@ module _ (r : ℕ) (blocks : List Block) (p : SoundBlocks r blocks) (few : r ≤
   -- never 12
   pub dense-made : withJoined r blocks (dense (joinedShape r blocks)) ≡ sizedOr (joinedFull r blocks (dense (joinedShape r blocks)))
   unfolding dense
-  dense-made = form-made (form-joined p (dense (joinedShape r blocks)) length-dense dense-form)
+  dense-made = form-made (form-joined p (dense (joinedShape r blocks)) (length-dense r blocks) dense-form)
 
 -- ---- blocks that agree
 
@@ -178,14 +171,14 @@ of-blocks test blocks e = all-each (λ (b : Block). test (b .layout)) (sym (all-
 
 module _ (r : ℕ) (blocks : List Block) (p : SoundBlocks r blocks) (few : r ≤ rankLimit) (a : agree r blocks ≡ true) where
   -- all ranks are the asked one
-  rank-one : (b : Block) → List·Memᴰ b blocks → rank (b .layout) ≡ r
+  pub rank-one : (b : Block) → List·Memᴰ b blocks → rank (b .layout) ≡ r
   unfolding agree
   rank-one b m =
       let ranks = both-true (all (λ l. eqb (l .dense) (blocksD blocks)) (notDense blocks)) (all (λ l. eqb (rank l) r) (layoutsOf blocks)) (both-true _ _ a .0) .1 in
       eqb-true (rank (b .layout)) r (of-blocks (λ l. eqb (rank l) r) blocks ranks b m)
 
   -- blocks not dense have one D
-  dense-one : (b : Block) → List·Memᴰ b blocks → isDense (b .layout) ≡ false → b .layout .dense ≡ blocksD blocks
+  pub dense-one : (b : Block) → List·Memᴰ b blocks → isDense (b .layout) ≡ false → b .layout .dense ≡ blocksD blocks
   unfolding agree
   dense-one b m e =
       let ones = both-true (all (λ l. eqb (l .dense) (blocksD blocks)) (notDense blocks)) (all (λ l. eqb (rank l) r) (layoutsOf blocks)) (both-true _ _ a .0) .0 in
@@ -193,7 +186,7 @@ module _ (r : ℕ) (blocks : List Block) (p : SoundBlocks r blocks) (few : r ≤
       eqb-true (b .layout .dense) (blocksD blocks) (rw e at one)
 
   -- and it is not above the rank
-  d-low : blocksD blocks ≤ r
+  pub d-low : blocksD blocks ≤ r
   d-low = first-low r (layoutsOf blocks) one
     where
       one : (x : Layout) → List·Memᴰ x (layoutsOf blocks) → x .dense ≤ r
@@ -203,7 +196,7 @@ module _ (r : ℕ) (blocks : List Block) (p : SoundBlocks r blocks) (few : r ≤
 
   -- ---- diagonal
 
-  length-diagonal : rank (joinDiagonal r blocks) ≡ r
+  pub length-diagonal : rank (joinDiagonal r blocks) ≡ r
   length-diagonal = rw (length-map, from-length)
 
   -- R - D = 0: 12
@@ -240,7 +233,7 @@ module _ (r : ℕ) (blocks : List Block) (p : SoundBlocks r blocks) (few : r ≤
     even-sum k h [] f = refl
     even-sum k h (b ∷ l) f = rw (even-block b (f b (List·Memᴰ·head refl)) k h, even-sum k h l (λ c m. f c (List·Memᴰ·tail m)))
 
-    diagonal-form : blocksD blocks < r → WellFormed (joinDiagonal r blocks)
+    pub diagonal-form : blocksD blocks < r → WellFormed (joinDiagonal r blocks)
     unfolding sorted
     diagonal-form h = record {
       kind-most = omega arith;
@@ -276,11 +269,11 @@ module _ (r : ℕ) (blocks : List Block) (p : SoundBlocks r blocks) (few : r ≤
 
   module _ (bare : ltb 0 (blocksD blocks) && not (all isSparse (layoutsOf blocks)) ≡ false) where
     -- a row of R - D numbers, below the extents of its block
-    abbrev RowIn : Layout → List ℕ → Type 0
+    abbrev pub RowIn : Layout → List ℕ → Type 0
     RowIn l row = (length row ≡ r - blocksD blocks) × (allBelow row (l .shape) ≡ true)
 
     -- a block that is not sparse: there is no dense axis
-    no-axis : (b : Block) → List·Memᴰ b blocks → isSparse (b .layout) ≡ false → blocksD blocks ≡ 0
+    pub no-axis : (b : Block) → List·Memᴰ b blocks → isSparse (b .layout) ≡ false → blocksD blocks ≡ 0
     no-axis b m e = by (ltb 0 (blocksD blocks)) (all isSparse (layoutsOf blocks)) refl refl bare
       where
         by : (s t : Bool) → ltb 0 (blocksD blocks) ≡ s → all isSparse (layoutsOf blocks) ≡ t → s && not t ≡ false → blocksD blocks ≡ 0
@@ -288,7 +281,7 @@ module _ (r : ℕ) (blocks : List Block) (p : SoundBlocks r blocks) (few : r ≤
         by true false f g h = cc
         by false t f g h = let past = ltb-false 0 (blocksD blocks) f in omega arith
 
-    rows-in : (b : Block) → List·Memᴰ b blocks → Each (RowIn (b .layout)) (rowsOfBlock (b .layout))
+    pub rows-in : (b : Block) → List·Memᴰ b blocks → Each (RowIn (b .layout)) (rowsOfBlock (b .layout))
     rows-in b m = by (isDense l) (isDiagonal l) refl refl
       where
         l : Layout
@@ -312,11 +305,11 @@ module _ (r : ℕ) (blocks : List Block) (p : SoundBlocks r blocks) (few : r ≤
             let q = p b m .layout .form .row-lengths row i in
             (omega (arith, q, axes, rank-one b m), p b m .layout .form .rows-below row i)
 
-    length-reach : length (map (reach blocks) (below r)) ≡ r
+    pub length-reach : length (map (reach blocks) (below r)) ≡ r
     length-reach = rw (length-map, from-length)
 
     -- a moved row is below what the blocks reach
-    moved-in : (b : Block) → List·Memᴰ b blocks → (row : List ℕ) → RowIn (b .layout) row → allBelow (movedBy (b .start) row) (map (reach blocks) (below r)) ≡ true
+    pub moved-in : (b : Block) → List·Memᴰ b blocks → (row : List ℕ) → RowIn (b .layout) row → allBelow (movedBy (b .start) row) (map (reach blocks) (below r)) ≡ true
     moved-in b m row q = at-below (movedBy (b .start) row) (map (reach blocks) (below r)) (λ k h. one k (rw (moved-length (b .start) row) at h))
       where
         one : (k : ℕ) → k < length row → getD (movedBy (b .start) row) k 0 < getD (map (reach blocks) (below r)) k 0

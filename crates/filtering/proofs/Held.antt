@@ -1,6 +1,6 @@
 -- `is_row`, `on_diagonal` and `is_held`: an index is held by the kind of the layout. Assumes nothing.
-use mathlib.Core.Path.{_≡_, refl, sym, ap, _∙_}
-use mathlib.Core.Bool.{Bool, true, false, _&&_}
+use mathlib.Core.Path.{_≡_, refl, sym, _∙_}
+use mathlib.Core.Bool.{Bool, true, false}
 use mathlib.Core.List.{List}
 use mathlib.Core.Logic.{_⊎_, inl, inr, ⊎-elim}
 use Prim.Native.Nat.{ℕ, _+_, _-_, _<_, _≤_}
@@ -11,7 +11,7 @@ use lib.Dec.{ltb}
 use lib.IntN.{ℤ}
 use lib.ListN.{length, getD}
 use Rattle.rules.specs.Lists.{allBelow}
-use Rattle.rules.specs.RowsInOrder.{among, Each, Increasing, In}
+use Rattle.rules.specs.RowsInOrder.{among, Increasing, In}
 use Rattle.rules.specs.Layout.{alike}
 use Rattle.rules.specs.Dependencies.{onDiagonal, held}
 use Rattle.rules.proofs.Sets.{among-in, in-among}

@@ -14,10 +14,10 @@ use lib.Seq.{take-suc, take-all, take-take}
 use Rattle.rules.specs.Lists.{keep, putIf}
 use Rattle.rules.specs.Buffers.{part}
 use Rattle.rules.specs.RowsInOrder.{sorted}
-use Rattle.rules.specs.Layout.{Layout, few}
+use Rattle.rules.specs.Layout.{Layout}
 use Rattle.rules.specs.Dependencies.{indexOf, held, filterDeps}
 use Rattle.rules.proofs.Changed.{take-low}
-use Rattle.rules.proofs.Keeping.{keep-pass, keep-fail, keep-increasing, keep-length}
+use Rattle.rules.proofs.Keeping.{keep-increasing, keep-length}
 use Rattle.rules.proofs.Sorting.{sorted-id, sorted-length}
 use Rattle.cells.specs.View.{view}
 use Rattle.tables.specs.Rows.{rowAt, HasRow}

@@ -54,7 +54,7 @@ module _ {s : List ℤ} (j : JudgedRecord s) {r : Walk} (e : r ≡ walk s) where
 -- ---- `has_shape` and `is_unchanged`
 
 -- lists of different lengths differ
-same-lengths : (p q : List ℕ) → (length p ≡ length q → ⊥) → same p q ≡ false
+pub same-lengths : (p q : List ℕ) → (length p ≡ length q → ⊥) → same p q ≡ false
 same-lengths p q n = go (same p q) refl
   where
     go : (t : Bool) → same p q ≡ t → same p q ≡ false

@@ -27,16 +27,9 @@ use Rattle.parts.specs.Parts.{left, right, kindAt, denseAt, rankAt, widthAt, la
 use Rattle.parts.proofs.Packing.{part-cons}
 use Rattle.parts.proofs.Holds.{rank-most, shape-length, dense-most, rows-few}
 use Rattle.fold.specs.Folded.{sameHeads}
+use Rattle.fold.proofs.Bringing.{same-lengths}
 
 -- ---- numbers and rows
-
--- lists of different lengths differ
-lengths-differ : (p q : List ℕ) → (length p ≡ length q → ⊥) → same p q ≡ false
-lengths-differ p q n = go (same p q) refl
-  where
-    go : (t : Bool) → same p q ≡ t → same p q ≡ false
-    go true e = absurd (n (ap length (same-true e)))
-    go false e = e
 
 -- kind, D, rank and as many extents decide whether kind, D and extents are the same
 head-test : (k k′ d d′ r r′ : ℕ) (p p′ q : List ℕ) → length p ≡ r → length q ≡ r′ → (r ≡ r′ → p′ ≡ q) →
@@ -50,7 +43,7 @@ head-test k k′ d d′ r r′ p p′ q e f g = by (eqb r r′) refl
 
     by : (t : Bool) → eqb r r′ ≡ t → eqb k k′ && (eqb d d′ && (eqb r r′ && same p p′)) ≡ eqb k k′ && eqb d d′ && same p q
     by true h = rw (h, g (eqb-true r r′ h)) (group (eqb k k′) (eqb d d′) (same p q))
-    by false h = rw (h, lengths-differ p q (λ z. eqb-false r r′ h (sym e ∙ z ∙ f))) (group (eqb k k′) (eqb d d′) false)
+    by false h = rw (h, same-lengths p q (λ z. eqb-false r r′ h (sym e ∙ z ∙ f))) (group (eqb k k′) (eqb d d′) false)
 
 -- a count and the numbers of so many rows decide whether the rows are the same
 rows-test : (w n n′ : ℕ) (x y : List ℕ) → same (n ∷ take (n * w) x) (n′ ∷ take (n * w) y) ≡ sameRows (rowsOf w n x) (rowsOf w n′ y)

@@ -1,4 +1,5 @@
-// Records stretched to a shape: all are judged in list order, and later each is brought into a part when its turn comes.
+// Records stretched to a shape: all are judged in list order, and later each is brought into a part when its turn comes. Each was judged sound
+// before, so that it can be walked.
 ghost use mathlib.Core.Path.{_≡_};
 ghost use mathlib.Core.Bool.{_&&_};
 ghost use Prim.Native.Nat.{_≤_};
@@ -79,7 +80,7 @@ fn is_unchanged(from: &[i32], head: Head, shape: Shape) -> bool
     false
 }
 
-// A record that may be stretched to the shape goes into the part, stretched.
+// A record that may be stretched to the shape goes into the part, stretched. That it may was judged before, so that the step is done.
 pub fn bring(from: &[i32], shape: Shape, part: &mut [i32])
     requires { ⌜ BringAsked shape (now from) ⌝ }
     requires { ⌜ partSize ≤ length (now part) ⌝ }

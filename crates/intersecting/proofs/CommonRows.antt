@@ -5,7 +5,6 @@ use mathlib.Core.Bool.{Bool, true, false, _&&_}
 use mathlib.Core.List.{List, []}
 use mathlib.Core.Logic.{inl, inr}
 use Prim.Native.Nat.{ℕ, _+_, _-_, _≤_}
-use native.Mathlib.Nat.{add-zero}
 use native.Mathlib.Omega.{arith}
 use borrow.Author.Tests.{le-leb, leb-true, ne-eqb, eq-eqb}
 use lib.IntN.{ℤ, pos}
@@ -13,10 +12,9 @@ use lib.ListN.{length, getD, set}
 use Rattle.rules.specs.Limits.{entryLimit, productLimit}
 use Rattle.rules.specs.Lists.{keep, product}
 use Rattle.rules.specs.Buffers.{part}
-use Rattle.rules.specs.RowsInOrder.{sorted, merge, among}
+use Rattle.rules.specs.RowsInOrder.{sorted, among}
 use Rattle.rules.specs.Layout.{Layout, few, nonzeroProduct, withinProduct}
 use Rattle.rules.specs.CountsAndForms.{toDense, denseIfFull}
-use Rattle.rules.specs.Dependencies.{filterDeps}
 use Rattle.rules.specs.Pairs.{lowered, fewOf}
 use Rattle.rules.specs.Intersect.{common}
 use Rattle.rules.proofs.Same.{both-true, true-not-false}
@@ -26,23 +24,21 @@ use Rattle.rules.proofs.Keeping.{keep-only, keep-passes, keep-has, keep-increas
 use Rattle.rules.proofs.Lowering.{Lowered, lowered-is, lowered-few}
 use Rattle.cells.specs.View.{view}
 use Rattle.tables.specs.Rows.{rowAt}
-use Rattle.tables.specs.Tables.{tableAt, roomEnd, Only, Ready, PairAsked, CommonRows}
+use Rattle.tables.specs.Tables.{tableAt, Only, Ready, CommonRows}
 use Rattle.tables.proofs.Only.{only-then, only-wider, only-same, only-set, view-outside, row-outside, table-outside, ready-outside}
 use Rattle.tables.proofs.Rows.{row-length}
 use Rattle.tables.proofs.Tables.{table-length}
 use Rattle.tables.proofs.Made.{emptied, common-ready}
 use Rattle.axes.specs.Extents.{Extents}
 use Rattle.parts.specs.Parts.{extentsFrom, rowsFrom, statesFrom, inputsFrom, windowSize, left, right, target, spare, otherSpare, kindAt, denseAt, rankAt, layoutAt, Window}
-use Rattle.parts.proofs.Holds.{rank-most, rank-is}
-use Rattle.lowering.specs.Lowering.{loweredDeps}
+use Rattle.parts.proofs.Holds.{rank-most}
 use Rattle.lowering.proofs.LoweredDeps.{lowered-deps}
 use Rattle.filtering.specs.Filtering.{filterAt, Filters}
 use Rattle.combine.specs.Window.{BothAsked, BothLowered, HeadAsked, HeadMade}
 use Rattle.combine.proofs.Rooms.{first-same, second-same, first-rank, second-rank, window-still}
 use Rattle.combine.proofs.Heads.{stored-number}
 use Rattle.combine.proofs.Both.{ranks, free, lower-first, lower-second, lower-rank}
-use Rattle.combine.proofs.Joining.{ask-merge}
-use Rattle.intersecting.specs.Intersecting.{MergeAsked, loweredList, mergedList, fewInList, DepsMerged, CommonMade, FillAsked, FilledUp, commonOf, fewCommon, CommonLaid}
+use Rattle.intersecting.specs.Intersecting.{loweredList, mergedList, DepsMerged, CommonMade, FillAsked, FilledUp, commonOf, fewCommon, CommonLaid}
 use Rattle.intersecting.proofs.MergedLists.{parts-same}
 
 -- ---- the common rows

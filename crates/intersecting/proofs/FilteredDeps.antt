@@ -1,17 +1,17 @@
 -- Dependencies lowered, merged and filtered: they fit the layout, and how large their numbers are. Assumes nothing.
-use mathlib.Core.Path.{_≡_, refl, sym, subst, _∙_}
+use mathlib.Core.Path.{_≡_, subst}
 use mathlib.Core.Bool.{Bool, true, false}
-use mathlib.Core.List.{List, _++_, map, Memᴰ·of-map}
+use mathlib.Core.List.{List, _++_, Memᴰ·of-map}
 use mathlib.Core.Logic.{⊎-elim}
 use Prim.Native.Nat.{ℕ, _+_, _-_, _^_, _≤_}
 use native.Mathlib.Omega.{arith}
-use lib.ListN.{length, getD, take, drop, length-append, length-drop}
+use lib.ListN.{length, take, drop, length-append, length-drop}
 use lib.Seq.{length-take-le, getD-drop}
 use Rattle.rules.specs.Limits.{productLimit}
-use Rattle.rules.specs.Lists.{if, keep, gather}
-use Rattle.rules.specs.RowsInOrder.{sorted, merge, In, Each, Increasing}
+use Rattle.rules.specs.Lists.{if, keep}
+use Rattle.rules.specs.RowsInOrder.{merge, In, Each, Increasing}
 use Rattle.rules.specs.Layout.{Layout, rank, nonzeroProduct}
-use Rattle.rules.specs.Soundness.{NumbersBelow, DepsFit, DepsSmall}
+use Rattle.rules.specs.Soundness.{NumbersBelow}
 use Rattle.rules.specs.Dependencies.{onIndex, held, indexOf, filterDeps}
 use Rattle.rules.specs.Removal.{keptAxes, lastPositions, removedDeps}
 use Rattle.rules.proofs.Sets.{Subset, each-append, same-rows}

@@ -18,7 +18,7 @@ use Rattle.rules.specs.Pairs.{lowerD, barsExpansion, withMerged}
 use Rattle.rules.specs.Intersect.{intersect}
 use Rattle.rules.proofs.Soundness.{diagonal-rows}
 use Rattle.rules.proofs.Made.{fewOr}
-use Rattle.parts.specs.Parts.{left, right, denseAt, layoutAt, Window}
+use Rattle.parts.specs.Parts.{left, right, denseAt, layoutAt}
 use Rattle.combine.specs.declared.window.Way.{Way}
 use Rattle.combine.specs.declared.window.Way.the-variants.{Dense, Diagonals, Rows}
 use Rattle.combine.specs.Window.{wayOf, RowsAsked, BothAsked, mergedStates, mergedInputs, shaped, madeStep, Made, Combined}

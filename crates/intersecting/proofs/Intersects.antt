@@ -1,18 +1,18 @@
 -- Which answer `intersect` gives of two sound layouts, case by case, and that it is sound. Assumes nothing.
 use mathlib.Core.Path.{_≡_, refl, sym, ap, subst, _∙_}
 use mathlib.Core.Bool.{Bool, true, false, not, _&&_, _||_}
-use mathlib.Core.List.{List, [], _∷_, _++_}
-use Prim.Native.Nat.{ℕ, _^_, _≤_, _<_}
+use mathlib.Core.List.{List, [], _∷_}
+use Prim.Native.Nat.{ℕ, _≤_}
 use native.Mathlib.Omega.{arith}
 use borrow.Author.Tests.{eqb-false}
 use lib.Dec.{eqb, ltb}
 use lib.ListN.{length}
-use Rattle.rules.specs.Lists.{if, none, keep, same, product}
-use Rattle.rules.specs.RowsInOrder.{merge, among, In}
+use Rattle.rules.specs.Lists.{if, keep, same, product}
+use Rattle.rules.specs.RowsInOrder.{merge, among}
 use Rattle.rules.specs.Refusals.{Verdict, given, refused, inForm, _then_, Reason, _when_, lowest}
-use Rattle.rules.specs.Layout.{Layout, rank, isDense, isDiagonal, isSparse, few, nonzeroProduct, made}
+use Rattle.rules.specs.Layout.{Layout, rank, isDense, isDiagonal, isSparse, nonzeroProduct, made}
 use Rattle.rules.specs.Limits.{productLimit}
-use Rattle.rules.specs.Soundness.{DepsFit, DepsLow, NumbersBelow, WellFormed, Sound}
+use Rattle.rules.specs.Soundness.{DepsFit, DepsLow, WellFormed, Sound}
 use Rattle.rules.specs.Dependencies.{filterDeps, barsFilter}
 use Rattle.rules.specs.CountsAndForms.{toDense, denseIfFull}
 use Rattle.rules.specs.Removal.{listsRow, removeDenseAxes}

@@ -8,16 +8,15 @@ use native.Mathlib.Omega.{arith}
 use borrow.Author.Tests.{ne-eqb, lt-ltb, le-ltb}
 use lib.Dec.{ltb}
 use lib.IntN.{ℤ}
-use lib.ListN.{length, getD, take, drop}
+use lib.ListN.{length, getD, take}
 use Rattle.rules.specs.declared.Ordering.{Ordering}
 use Rattle.rules.specs.declared.Ordering.the-variants.{Less, Equal, Greater}
 use Rattle.rules.specs.Lists.{none, gather, product}
-use Rattle.rules.specs.RowsInOrder.{cmpRows, insert, sorted, sortedOnto, sortedFew, merge, In}
-use Rattle.rules.specs.Layout.{Layout, rank, isDiagonal, few}
+use Rattle.rules.specs.RowsInOrder.{cmpRows, insert, sorted, sortedFew, merge, In}
+use Rattle.rules.specs.Layout.{Layout, isDiagonal, few}
 use Rattle.rules.specs.Dependencies.{onIndex, barsFilter}
 use Rattle.rules.specs.Removal.{positions, keptAxes, lastPositions, removedDeps}
 use Rattle.rules.specs.Intersect.{barsMerged}
-use Rattle.rules.proofs.Same.{true-not-false}
 use Rattle.rules.proofs.Tests.{none-true}
 use Rattle.rules.proofs.Places.{in-at}
 use Rattle.rules.proofs.Sorting.{sorted-has}
@@ -25,10 +24,9 @@ use Rattle.rules.proofs.Few.{few-sorted, sorted-few}
 use Rattle.rules.proofs.Gathering.{gather-has}
 use Rattle.rules.proofs.Indices.{positions-length}
 use Rattle.cells.specs.View.{view}
-use Rattle.tables.specs.Rows.{rowAt}
 use Rattle.tables.proofs.Tables.{table-length}
 use Rattle.parts.specs.Parts.{statesFrom, inputsFrom, left, right, kindAt, denseAt, rankAt, layoutAt, Holds}
-use Rattle.parts.proofs.Holds.{rank-most, shape-length, dense-most}
+use Rattle.parts.proofs.Holds.{shape-length, dense-most}
 use Rattle.lowering.specs.Lowering.{Axes, lastAxes, removesAxes, loweredDeps}
 use Rattle.lowering.proofs.Listing.{layout-axes}
 use Rattle.lowering.proofs.LoweredDeps.{above-dense}

@@ -1,12 +1,11 @@
 -- `take_held`, `merge_list` and `merge_held`: the lists of both layouts, lowered, filtered by the target, and merged into it. Assumes nothing.
 use mathlib.Core.Path.{_≡_, refl, sym, ap, _∙_}
-use mathlib.Core.Bool.{Bool, true, false, _&&_}
+use mathlib.Core.Bool.{Bool, true, false}
 use mathlib.Core.List.{List}
-use mathlib.Core.Logic.{_⊎_, inl, inr, ⊎-elim}
+use mathlib.Core.Logic.{_⊎_, inl, inr}
 use Prim.Native.Nat.{ℕ, _+_, _≤_}
 use native.Mathlib.Omega.{arith}
 use lib.IntN.{ℤ}
-use lib.ListN.{length}
 use Rattle.rules.specs.RowsInOrder.{sorted, merge}
 use Rattle.rules.specs.Layout.{Layout, few, withDeps}
 use Rattle.rules.specs.Dependencies.{held, indexOf, filterDeps}
@@ -18,7 +17,7 @@ use Rattle.tables.proofs.Made.{merged-ready}
 use Rattle.parts.specs.Parts.{partSize, statesFrom, inputsFrom, windowSize, left, right, target, spare, otherSpare, rankAt, layoutAt, Holds, Window}
 use Rattle.parts.proofs.Holds.{rank-most, states-ready, inputs-ready}
 use Rattle.lowering.specs.Lowering.{DepsAsked, Listed}
-use Rattle.filtering.specs.Filtering.{filterAt, Filters, KeepAsked, Kept}
+use Rattle.filtering.specs.Filtering.{filterAt, KeepAsked, Kept}
 use Rattle.filtering.proofs.Held.{rank-same, filter-same, filters-still}
 use Rattle.combine.proofs.Rooms.{first-same, second-same, first-rank, second-rank, window-still}
 use Rattle.intersecting.specs.Intersecting.{MergeAsked, ListPlace, TakeAsked, loweredList, HeldTaken, mergedList, ListAsked, fewInList, ListMerged, DepsMerged}

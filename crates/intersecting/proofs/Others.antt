@@ -1,26 +1,24 @@
 -- `other_of` and `with_dense`: the other one than a dense one, its head and rows copied, and the dependencies of both that it holds.
 -- Assumes nothing.
 use mathlib.Core.Path.{_≡_, refl, sym, ap, _∙_}
-use mathlib.Core.Bool.{Bool, true, false, not, _&&_, _||_}
+use mathlib.Core.Bool.{Bool, true, false}
 use mathlib.Core.List.{List, []}
-use mathlib.Core.Logic.{_⊎_, inl, inr}
+use mathlib.Core.Logic.{_⊎_, inl}
 use Prim.Native.Nat.{ℕ, _+_, _*_, _≤_, _<_}
 use native.Mathlib.Nat.{add-zero, mul-le-mul-right}
 use native.Mathlib.Omega.{arith}
-use borrow.Author.Tests.{le-leb, le-ltb}
-use lib.Dec.{ltb}
+use borrow.Author.Tests.{le-leb}
 use lib.IntN.{ℤ}
 use lib.ListN.{length, getD}
 use Rattle.rules.specs.declared.Step.{Step}
 use Rattle.rules.specs.declared.Step.the-variants.{Refused}
 use Rattle.rules.specs.declared.Refusal.the-variants.{DenseAxes}
 use Rattle.rules.specs.Limits.{entryLimit}
-use Rattle.rules.specs.Lists.{if, same}
+use Rattle.rules.specs.Lists.{if}
 use Rattle.rules.specs.Buffers.{part, put}
 use Rattle.rules.specs.RowsInOrder.{merge, increasing}
 use Rattle.rules.specs.Refusals.{given, refused, numberOf}
-use Rattle.rules.specs.Layout.{Layout, rank, isDense, isDiagonal, few, withDeps}
-use Rattle.rules.specs.Soundness.{Sound}
+use Rattle.rules.specs.Layout.{Layout, rank, isDense, few, withDeps}
 use Rattle.rules.specs.Dependencies.{held, filterDeps}
 use Rattle.rules.specs.Pairs.{fewOf}
 use Rattle.rules.specs.Intersect.{filteredBy, barsMerged, withDense, intersect}
@@ -29,20 +27,19 @@ use Rattle.rules.proofs.Buffers.{length-part, part-put-all}
 use Rattle.rules.proofs.Sets.{increasing-true}
 use Rattle.cells.specs.View.{view}
 use Rattle.cells.proofs.View.{view-part}
-use Rattle.tables.specs.Tables.{tableAt, Only, Fits, Ready}
+use Rattle.tables.specs.Tables.{tableAt, Only, Ready}
 use Rattle.tables.proofs.Only.{only-then, only-wider, only-put}
-use Rattle.tables.proofs.Tables.{table-length}
 use Rattle.parts.specs.Parts.{partSize, extentsFrom, rowsFrom, statesFrom, inputsFrom, windowSize, left, right, target, kindAt, denseAt, rankAt, widthAt, layoutAt, Holds, Window}
 use Rattle.parts.proofs.Copied.{number-copied, part-copied, table-copied}
 use Rattle.parts.proofs.Holds.{rank-most, rank-is, dense-most, rows-fit}
-use Rattle.lowering.specs.Lowering.{removesAxes, loweredDeps}
-use Rattle.filtering.specs.Filtering.{filterAt, Filters}
+use Rattle.lowering.specs.Lowering.{loweredDeps}
+use Rattle.filtering.specs.Filtering.{filterAt}
 use Rattle.combine.specs.declared.window.Way.the-variants.{Dense}
 use Rattle.combine.specs.Window.{madeStep, Combined}
 use Rattle.combine.proofs.Ways.{Told, told-dense, way-told}
 use Rattle.combine.proofs.Rooms.{first-same, second-same, first-rank, second-rank, window-still}
 use Rattle.combine.proofs.Combining.{Makes, combine-refused, combine-told}
-use Rattle.intersecting.specs.Intersecting.{OtherAsked, MergeAsked, loweredList, mergedList, fewInList, DepsMerged, otherOf, DenseAsked}
+use Rattle.intersecting.specs.Intersecting.{OtherAsked, MergeAsked, loweredList, mergedList, DepsMerged, otherOf, DenseAsked}
 use Rattle.intersecting.proofs.Intersects.{left-dense, right-dense, dense-barred, dense-given, intersect-sound, intersect-low}
 use Rattle.intersecting.proofs.Meeting.{keeps-axes}
 use Rattle.intersecting.proofs.MergedLists.{parts-same}

@@ -1,7 +1,7 @@
 -- Two layouts in a window of parts, intersected: which dependencies meet a filter, and what is made in the target.
 use mathlib.Core.Logic.{_⊎_}
 use mathlib.Core.Path.{_≡_}
-use mathlib.Core.Bool.{Bool, true, false, not, _&&_, _||_}
+use mathlib.Core.Bool.{Bool, true, not, _&&_}
 use mathlib.Core.List.{List}
 use Prim.Native.Nat.{ℕ, _+_, _≤_}
 use lib.IntN.{ℤ}
@@ -20,7 +20,7 @@ use Rattle.parts.specs.Parts.{partSize, statesFrom, inputsFrom, windowSize, lef
 use Rattle.lowering.specs.Lowering.{loweredDeps}
 use Rattle.filtering.specs.Filtering.{filterAt, Filters}
 use Rattle.combine.specs.declared.window.Way.the-variants.{Dense}
-use Rattle.combine.specs.Window.{wayOf, BothAsked}
+use Rattle.combine.specs.Window.{wayOf}
 
 -- a window whose two layouts have their rows in order
 pub record OrderedWindow (s : List ℤ) : Type 0 where

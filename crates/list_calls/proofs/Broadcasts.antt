@@ -38,7 +38,7 @@ use Rattle.judging.specs.declared.Sizes.{Sizes}
 use Rattle.judging.specs.declared.Sizes.the-variants.{Kept, Refused}
 use Rattle.judging.specs.LentSizes.{sizeReasons, SizesKept, SizesAre}
 use Rattle.judging.proofs.Judged.{reason-holds, reason-passed}
-use Rattle.judging.proofs.LentSizes.{kept-told, refused-told}
+use Rattle.judging.proofs.LentSizes.{kept-told, refused-told, told-either}
 use Rattle.judging.proofs.Endings.{ends-early, ends-late, ends-done}
 
 -- ---- the records of a list
@@ -78,11 +78,14 @@ module _ (s : List ℤ) (count : ℤ) (operator : ℕ) (result work : List ℤ) 
 
   -- 1 or 2
   module _ {a b o : Bool} (a-is : a ≡ overCount count) (b-is : b ≡ any overRecord (recordsIn count s)) (o-is : o ≡ a || b) {r : Sizes} (sizes : SizesAre o (length result) (length work) r) where
+    over-told : o ≡ told
+    over-told = told-either (overCount count) (any overRecord (recordsIn count s)) a-is b-is o-is
+
     pub broadcast-early : {why : Refusal} → r ≡ Refused why → Ends (inForm encode call) result work (NotWritten why) result work
-    broadcast-early e = ends-early told reasons step-gives result work (refused-told (overCount count) (any overRecord (recordsIn count s)) a-is b-is o-is sizes e)
+    broadcast-early e = ends-early told reasons step-gives result work (refused-told over-told sizes e)
 
     pub broadcast-kept : r ≡ Kept → SizesKept told (length result) (length work)
-    broadcast-kept e = kept-told (overCount count) (any overRecord (recordsIn count s)) a-is b-is o-is sizes e
+    broadcast-kept e = kept-told over-told sizes e
 
   module _ (k : SizesKept told (length result) (length work)) (n : ℕ) (places : List ℕ) (are : standing n places s ≡ recordsIn count s) {t : Bool} (t-is : t ≡ all sound (standing n places s)) where
     all-told : all sound (recordsIn count s) ≡ t

@@ -1,5 +1,5 @@
 -- `lower_into`: which rows it lists, by the kind and the D of the layout. Assumes nothing.
-use mathlib.Core.Path.{_≡_, refl, sym, ap, _∙_}
+use mathlib.Core.Path.{_≡_, refl, sym, _∙_}
 use mathlib.Core.Bool.{Bool, true}
 use mathlib.Core.List.{List, [], _∷_, append-nil}
 use mathlib.Core.Logic.{inl, inr, ⊎-elim}
@@ -29,7 +29,7 @@ use Rattle.tables.proofs.Only.{only-then, only-set, only-wider, row-outside, ta
 use Rattle.tables.proofs.Tables.{table-length}
 use Rattle.tables.proofs.Made.{emptied, emptied-ready, sorted-ready}
 use Rattle.parts.specs.Parts.{kindAt, denseAt, rankAt, widthAt, layoutAt, Holds}
-use Rattle.parts.proofs.Holds.{rank-most, rank-is, shape-length, rows-few, rows-fit, rank-outside, layout-outside, holds-outside}
+use Rattle.parts.proofs.Holds.{rank-most, rank-is, shape-length, rows-few, rows-fit, rank-outside, holds-outside}
 use Rattle.lowering.specs.Lowering.{Axes, lastPositions, allTails, RowsAsked, Taken, DiagonalAsked, diagonalOf, LowerAsked, Listed}
 use Rattle.lowering.proofs.Taking.{taken-none}
 

@@ -1,10 +1,9 @@
 -- `removes_axes` and `lower_deps_into`: which entries are listed, where axes are removed and where none is. Assumes nothing.
 use mathlib.Core.Path.{_≡_, refl, sym, ap, _∙_}
-use mathlib.Core.Bool.{Bool, true, false, not, _&&_}
+use mathlib.Core.Bool.{Bool, true, false, not}
 use mathlib.Core.List.{List, [], _∷_, _++_, map, append-assoc}
 use mathlib.Core.Logic.{inl, inr, ⊎-elim}
 use Prim.Native.Nat.{ℕ, _+_, _*_, _-_, _<_, _≤_}
-use native.Mathlib.Numerals.{add-one}
 use native.Mathlib.Omega.{arith}
 use borrow.Author.Tests.{ne-eqb, ltb-true, le-leb}
 use lib.Dec.{ltb}
@@ -13,9 +12,9 @@ use lib.ListN.{length, getD, set, take, drop}
 use lib.Seq.{take-take}
 use Rattle.rules.specs.Lists.{gather}
 use Rattle.rules.specs.RowsInOrder.{sorted, sortedFew, Each}
-use Rattle.rules.specs.Layout.{Layout, rank, isDiagonal, few}
+use Rattle.rules.specs.Layout.{Layout, isDiagonal, few}
 use Rattle.rules.specs.Dependencies.{onIndex}
-use Rattle.rules.specs.Removal.{positions, keptAxes, removedDeps, removeDenseAxes}
+use Rattle.rules.specs.Removal.{positions, removedDeps, removeDenseAxes}
 use Rattle.rules.specs.Pairs.{expanded, lowered}
 use Rattle.rules.proofs.Same.{both-true}
 use Rattle.rules.proofs.Sets.{each-head, each-tail}
@@ -30,8 +29,8 @@ use Rattle.tables.proofs.Only.{row-outside, table-outside, fits-outside}
 use Rattle.tables.proofs.Tables.{table-rows, table-length, fits-rows}
 use Rattle.tables.proofs.Made.{sorted-ready}
 use Rattle.parts.specs.Parts.{kindAt, denseAt, rankAt, layoutAt, Holds}
-use Rattle.parts.proofs.Holds.{rank-most, rank-is, shape-length, dense-most, rank-outside, holds-outside}
-use Rattle.lowering.specs.Lowering.{lastAxes, lastPositions, withTails, allTails, RowsAsked, Taken, Listed, removesAxes, loweredDeps, DepsAsked}
+use Rattle.parts.proofs.Holds.{rank-most, shape-length, dense-most, rank-outside, holds-outside}
+use Rattle.lowering.specs.Lowering.{lastPositions, withTails, allTails, RowsAsked, Taken, Listed, removesAxes, loweredDeps, DepsAsked}
 use Rattle.lowering.proofs.Listing.{cleared-only, cleared-ready, cleared-listed, layout-axes}
 
 -- ---- the dependencies of a lowered layout

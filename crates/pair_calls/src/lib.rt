@@ -3,25 +3,21 @@
 mod filter; // filter.rt: module 14
 
 pub use filter::filter_deps_from;
+ghost use mathlib.Core.Path.{_≡_};
+ghost use mathlib.Core.Bool.{_&&_};
 ghost use lib.ListN.{length};
 ghost use Rattle.rules.specs.Refusals.{inForm};
 ghost use Rattle.rules.specs.Layout.{encode};
+ghost use Rattle.rules.specs.Record.{ordered};
 ghost use Rattle.rules.specs.Endings.{Ends};
 ghost use Rattle.rules.specs.Union.{unionCall};
 ghost use Rattle.rules.specs.Intersect.{intersectCall};
+ghost use Rattle.records.specs.Sound.{SoundRecord};
 use judging::Sizes;
 use rules::Head;
 use rules::Refusal;
 use rules::Walk;
 use rules::Written;
-
-// Whether the rows of two sound records increase.
-fn both_ordered(left: &[i32], first: Head, right: &[i32], second: Head) -> bool {
-    if records::rows_ordered(left, first) {
-        return records::rows_ordered(right, second);
-    }
-    false
-}
 
 // The union of two records goes to the result.
 pub fn union(left: &[i32], right: &[i32], result: &mut [i32], work: &mut [i32]) -> Written
@@ -40,6 +36,17 @@ pub fn union(left: &[i32], right: &[i32], result: &mut [i32], work: &mut [i32]) 
     parts::load_pair(left, first, right, second, &mut work[0..parts::WINDOW]);
     let step = combine::union_in(&mut work[0..parts::WINDOW]);
     parts::finish(step, work, parts::TARGET, result)
+}
+
+// Whether the rows of two sound records increase.
+fn both_ordered(left: &[i32], first: Head, right: &[i32], second: Head) -> bool
+    requires { ⌜ SoundRecord first (now left) × SoundRecord second (now right) ⌝ }
+    ensures { λ r. ⌜ r ≡ (ordered (now (left .entry)) && ordered (now (right .entry))) ⌝ }
+{
+    if records::rows_ordered(left, first) {
+        return records::rows_ordered(right, second);
+    }
+    false
 }
 
 // The intersection of two ordered records goes to the result.

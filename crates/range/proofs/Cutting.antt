@@ -1,21 +1,20 @@
 -- `cut_deps`: the entries that lie in the range, cut, are the table as they come. Assumes nothing.
 use mathlib.Core.Path.{_≡_, refl, sym, ap, _∙_}
 use mathlib.Core.Bool.{Bool, true, false, not, _&&_}
-use mathlib.Core.List.{List, [], _∷_, _++_, map}
-use Prim.Native.Nat.{ℕ, suc, _+_, _*_, _<_, _≤_}
+use mathlib.Core.List.{List, [], _∷_, _++_, map, append-nil}
+use Prim.Native.Nat.{ℕ, _+_, _*_, _<_, _≤_}
 use native.Mathlib.Numerals.{add-one}
 use native.Mathlib.Omega.{arith}
 use borrow.Author.Tests.{not-true, not-false, leb-true}
 use lib.Dec.{leb, ltb}
 use lib.IntN.{ℤ, pos}
-use lib.ListN.{length, getD, set, take, drop, length-append, length-map, drop-of-length-le, take-append-drop}
+use lib.ListN.{length, getD, set, take, length-append, length-map, drop-of-length-le}
 use lib.Seq.{take-suc, take-all, length-take-le}
 use Rattle.rules.specs.declared.Entries.{Entries}
 use Rattle.rules.specs.Lists.{putIf, keep, allBelow}
 use Rattle.rules.specs.RowsInOrder.{increasing, Each}
 use Rattle.rules.specs.Dependencies.{indexOf}
 use Rattle.rules.proofs.Same.{both-true}
-use Rattle.rules.proofs.Sets.{each-left}
 use Rattle.rules.proofs.Keeping.{keep-only, keep-length}
 use Rattle.rules.proofs.Changed.{each-map}
 use Rattle.cells.specs.View.{view, Low}
@@ -76,8 +75,8 @@ module _ (cut : Cut) (shape : List ℕ) where
 -- ---- so far
 
 -- the entries of a record
-abbrev entriesOf : ℕ → Entries → List ℤ → List (List ℕ)
-entriesOf r deps s = rowsAt (deps .first) (r + 1) (deps .count) s
+abbrev entriesAt : ℕ → Entries → List ℤ → List (List ℕ)
+entriesAt r deps s = rowsAt (deps .first) (r + 1) (deps .count) s
 
 -- what is left of the first i entries is the table, of n rows
 pub record Cutting (r : ℕ) (deps : Entries) (cut : Cut) (s : List ℤ) (at : ℕ) (t u : List ℤ) (n i : ℕ) : Type 0 where
@@ -85,7 +84,7 @@ pub record Cutting (r : ℕ) (deps : Entries) (cut : Cut) (s : List ℤ) (at : �
   pub upto : i ≤ deps .count
   pub count : n ≡ getD (view u) at 0
   pub only : Only at (roomEnd at (cut .rank + 1)) t u
-  pub table : tableAt at (cut .rank + 1) u ≡ cutBy cut (rowAt 3 r s) (take i (entriesOf r deps s))
+  pub table : tableAt at (cut .rank + 1) u ≡ cutBy cut (rowAt 3 r s) (take i (entriesAt r deps s))
 
 -- ---- none yet
 
@@ -107,16 +106,16 @@ module _ {r : ℕ} {deps : Entries} {cut : Cut} {s : List ℤ} {at : ℕ} {t u :
 
   -- all of them
   module _ {n i : ℕ} {v : List ℤ} (g : Cutting r deps cut s at u v n i) (h : deps .count ≤ i) where
-    whole : take i (entriesOf r deps s) ≡ entriesOf r deps s
-    whole = take-all i (entriesOf r deps s) (omega (arith, length-rows (deps .first) (r + 1) (deps .count) s))
+    whole : take i (entriesAt r deps s) ≡ entriesAt r deps s
+    whole = take-all i (entriesAt r deps s) (omega (arith, length-rows (deps .first) (r + 1) (deps .count) s))
 
-    table-is : tableAt at (cut .rank + 1) v ≡ cutBy cut (rowAt 3 r s) (entriesOf r deps s)
+    table-is : tableAt at (cut .rank + 1) v ≡ cutBy cut (rowAt 3 r s) (entriesAt r deps s)
     table-is = g .table ∙ ap (cutBy cut (rowAt 3 r s)) whole
 
-    few-rows : length (cutBy cut (rowAt 3 r s) (entriesOf r deps s)) ≤ 128
-    few-rows = omega (arith, cut-most cut (rowAt 3 r s) (entriesOf r deps s), length-rows (deps .first) (r + 1) (deps .count) s, q .few)
+    few-rows : length (cutBy cut (rowAt 3 r s) (entriesAt r deps s)) ≤ 128
+    few-rows = omega (arith, cut-most cut (rowAt 3 r s) (entriesAt r deps s), length-rows (deps .first) (r + 1) (deps .count) s, q .few)
 
-    rows-are : rowsAt (at + 1) (cut .rank + 1) n v ≡ cutBy cut (rowAt 3 r s) (entriesOf r deps s)
+    rows-are : rowsAt (at + 1) (cut .rank + 1) n v ≡ cutBy cut (rowAt 3 r s) (entriesAt r deps s)
     rows-are = sym (table-rows at (cut .rank + 1) n v (g .count)) ∙ table-is
 
     rows-few : n ≤ 128
@@ -153,13 +152,13 @@ module _ {r : ℕ} {deps : Entries} {cut : Cut} {s : List ℤ} {at : ℕ} {t u :
   pub ask-entry : EntryAsked (deps .first + i * (r + 1)) r cut s
   ask-entry = record { entry = has-entry; shape-in = g .asked .shape-in; axis-in = g .asked .axis-in }
 
-  one-more : take (i + 1) (entriesOf r deps s) ≡ take i (entriesOf r deps s) ++ (entry ∷ [])
+  one-more : take (i + 1) (entriesAt r deps s) ≡ take i (entriesAt r deps s) ++ (entry ∷ [])
   one-more =
       rw (add-one i, ← row-of (deps .first) (r + 1) (deps .count) s i h)
-      (take-suc (entriesOf r deps s) i [] (omega (arith, length-rows (deps .first) (r + 1) (deps .count) s)))
+      (take-suc (entriesAt r deps s) i [] (omega (arith, length-rows (deps .first) (r + 1) (deps .count) s)))
 
-  more-cut : cutBy cut (rowAt 3 r s) (take (i + 1) (entriesOf r deps s)) ≡ cutBy cut (rowAt 3 r s) (take i (entriesOf r deps s)) ++ cutBy cut (rowAt 3 r s) (entry ∷ [])
-  more-cut = rw one-more (cut-append cut (rowAt 3 r s) (take i (entriesOf r deps s)) (entry ∷ []))
+  more-cut : cutBy cut (rowAt 3 r s) (take (i + 1) (entriesAt r deps s)) ≡ cutBy cut (rowAt 3 r s) (take i (entriesAt r deps s)) ++ cutBy cut (rowAt 3 r s) (entry ∷ [])
+  more-cut = rw one-more (cut-append cut (rowAt 3 r s) (take i (entriesAt r deps s)) (entry ∷ []))
 
   rows-so-far : length (tableAt at (cut .rank + 1) u) ≡ n
   rows-so-far = table-length at (cut .rank + 1) u ∙ sym (g .count)
@@ -174,12 +173,8 @@ module _ {r : ℕ} {deps : Entries} {cut : Cut} {s : List ℤ} {at : ℕ} {t u :
       only = g .only;
       table =
           g .table
-          ∙ sym (more-cut ∙ ap (λ (l : List (List ℕ)). cutBy cut (rowAt 3 r s) (take i (entriesOf r deps s)) ++ l) (one-left cut (rowAt 3 r s) entry (sym told ∙ not-true b e)) ∙ append-none (cutBy cut (rowAt 3 r s) (take i (entriesOf r deps s))));
+          ∙ sym (more-cut ∙ ap (λ (l : List (List ℕ)). cutBy cut (rowAt 3 r s) (take i (entriesAt r deps s)) ++ l) (one-left cut (rowAt 3 r s) entry (sym told ∙ not-true b e)) ∙ append-nil (cutBy cut (rowAt 3 r s) (take i (entriesAt r deps s))));
     }
-      where
-        append-none : (l : List (List ℕ)) → l ++ [] ≡ l
-        append-none [] = refl
-        append-none (x ∷ l) = ap (λ (m : List (List ℕ)). x ∷ m) (append-none l)
 
     -- it does
     module _ (e : not b ≡ false) where
@@ -200,7 +195,7 @@ module _ {r : ℕ} {deps : Entries} {cut : Cut} {s : List ℤ} {at : ℕ} {t u :
       few-so-far : n ≤ i
       few-so-far =
           rw (← rows-so-far, g .table)
-          (omega (arith, cut-most cut (rowAt 3 r s) (take i (entriesOf r deps s)), length-take-le i (entriesOf r deps s) (omega (arith, length-rows (deps .first) (r + 1) (deps .count) s))))
+          (omega (arith, cut-most cut (rowAt 3 r s) (take i (entriesAt r deps s)), length-take-le i (entriesAt r deps s) (omega (arith, length-rows (deps .first) (r + 1) (deps .count) s))))
 
       pub can-add : CanInsert at (cut .rank + 1) n n u
       can-add = record {
@@ -217,7 +212,7 @@ module _ {r : ℕ} {deps : Entries} {cut : Cut} {s : List ℤ} {at : ℕ} {t u :
         upto = omega arith;
         count = counted ∙ table-length at (cut .rank + 1) v;
         only = only-then (g .only) (p .only);
-        table = added ∙ rw (g .table, f) (sym (more-cut ∙ ap (λ (l : List (List ℕ)). cutBy cut (rowAt 3 r s) (take i (entriesOf r deps s)) ++ l) (one-kept cut (rowAt 3 r s) entry kept)));
+        table = added ∙ rw (g .table, f) (sym (more-cut ∙ ap (λ (l : List (List ℕ)). cutBy cut (rowAt 3 r s) (take i (entriesAt r deps s)) ++ l) (one-kept cut (rowAt 3 r s) entry kept)));
       }
         where
           old : List (List ℕ)

@@ -1,11 +1,11 @@
 -- `in_range` and `cut_row`: one entry, held against the range, and what is left of it. Assumes nothing.
 use mathlib.Core.Path.{_≡_, refl, sym, ap, _∙_}
-use mathlib.Core.Bool.{Bool, true, false, not, _&&_}
-use mathlib.Core.List.{List, _++_}
+use mathlib.Core.Bool.{Bool, true, false, not}
+use mathlib.Core.List.{List}
 use Prim.Native.Nat.{ℕ, suc, _+_, _-_, _^_, _<_, _≤_}
 use native.Mathlib.Omega.{arith}
 use borrow.Author.Tests.{not-true, not-false, lt-ltb, le-ltb, le-leb, lt-leb}
-use lib.Dec.{leb, ltb}
+use lib.Dec.{ltb}
 use lib.IntN.{ℤ, pos}
 use lib.ListN.{length, getD, set, take, drop}
 use lib.Seq.{take-take, take-set-lt, set-append-left, length-take-le, getD-take}
@@ -17,7 +17,7 @@ use Rattle.rules.proofs.Changed.{RowBelow, take-low, changed-low}
 use Rattle.rules.proofs.Replaced.{with-set, with-low}
 use Rattle.cells.specs.View.{view, Low}
 use Rattle.cells.proofs.View.{view-set}
-use Rattle.tables.specs.Rows.{rowAt, HasRow}
+use Rattle.tables.specs.Rows.{rowAt}
 use Rattle.tables.proofs.Rows.{row-length, row-number, row-low}
 use Rattle.moving.specs.Picking.{picked, shorterPlaces}
 use Rattle.moving.proofs.Shortening.{dep-shortened}

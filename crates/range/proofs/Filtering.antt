@@ -8,7 +8,6 @@ use native.Mathlib.Omega.{arith}
 use borrow.Author.Tests.{not-true, not-false}
 use lib.IntN.{ℤ}
 use lib.ListN.{length}
-use Rattle.rules.specs.declared.Entries.{Entries}
 use Rattle.rules.specs.declared.Head.{Head}
 use Rattle.rules.specs.declared.Refusal.the-variants.{Unjoinable, MadeUnsound}
 use Rattle.rules.specs.declared.Step.the-variants.{Done, Refused}
@@ -16,7 +15,7 @@ use Rattle.rules.specs.RowsInOrder.{increasing}
 use Rattle.rules.specs.Refusals.{numberOf}
 use Rattle.rules.specs.Layout.{Layout, rank, width, withDeps}
 use Rattle.rules.specs.Record.{layoutIn}
-use Rattle.rules.specs.FilterDepsFrom.{cutAxis, cannotCut, cutDeps, filterDepsFrom}
+use Rattle.rules.specs.FilterDepsFrom.{cannotCut, cutDeps, filterDepsFrom}
 use Rattle.rules.proofs.Ranging.{cutStates, cutInputs, filter-bars, filter-breaks, cut-ranks, filtered-sound, filter-given, filtered-low}
 use Rattle.tables.specs.Rows.{rowAt, rowsAt}
 use Rattle.tables.specs.Tables.{Only}

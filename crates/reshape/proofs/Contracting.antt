@@ -19,22 +19,19 @@ use Rattle.rules.specs.RowsInOrder.{sorted, Each}
 use Rattle.rules.specs.Refusals.{numberOf}
 use Rattle.rules.specs.Buffers.{part}
 use Rattle.rules.specs.Layout.{Layout, rank, isDense, isDiagonal, isSparse, nonzeroProduct, withinProduct}
-use Rattle.rules.specs.Soundness.{DepsLow}
 use Rattle.rules.specs.Record.{layoutIn}
 use Rattle.rules.specs.CountsAndForms.{toDense, denseIfFull}
 use Rattle.rules.specs.ContractLastAxis.{shortened, shortenedDeps, overShorter, contracted, contractLastAxis}
-use Rattle.rules.proofs.Buffers.{length-part}
 use Rattle.rules.proofs.Soundness.{OneKind, is-dense, is-diagonal, is-sparse, one-kind}
 use Rattle.rules.proofs.Extents.{nonzero-take}
 use Rattle.rules.proofs.Contracting.{shortened-length, contracted-dense-axis, contracted-diagonal, contracted-to-dense, contracted-rows, contracted-sound, contract-scalar, contract-given, contracted-low}
 use Rattle.cells.specs.View.{view}
-use Rattle.cells.proofs.View.{view-length, view-take, view-drop}
+use Rattle.cells.proofs.View.{view-take, view-drop}
 use Rattle.tables.specs.Rows.{rowAt, rowsAt}
 use Rattle.tables.proofs.Only.{only-then, only-wider}
 use Rattle.tables.proofs.Tables.{table-length}
 use Rattle.axes.specs.Extents.{Extents}
 use Rattle.records.specs.Sound.{SoundRecord}
-use Rattle.records.proofs.Layouts.{axes, has-states, has-inputs}
 use Rattle.records.proofs.SoundRecords.{lies, layout-sound, layout-shown}
 use Rattle.parts.specs.Parts.{partSize, rowsFrom, statesFrom, layoutAt}
 use Rattle.parts.specs.Answers.{Says}
