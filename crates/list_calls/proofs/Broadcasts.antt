@@ -78,14 +78,12 @@ module _ (s : List ℤ) (count : ℤ) (operator : ℕ) (result work : List ℤ) 
 
   -- 1 or 2
   module _ {a b o : Bool} (a-is : a ≡ overCount count) (b-is : b ≡ any overRecord (recordsIn count s)) (o-is : o ≡ a || b) {r : Sizes} (sizes : SizesAre o (length result) (length work) r) where
-    over-told : o ≡ told
-    over-told = told-either (overCount count) (any overRecord (recordsIn count s)) a-is b-is o-is
-
     pub broadcast-early : {why : Refusal} → r ≡ Refused why → Ends (inForm encode call) result work (NotWritten why) result work
-    broadcast-early e = ends-early told reasons step-gives result work (refused-told over-told sizes e)
+    broadcast-early e =
+        ends-early told reasons step-gives result work (refused-told (told-either (overCount count) (any overRecord (recordsIn count s)) a-is b-is o-is) sizes e)
 
     pub broadcast-kept : r ≡ Kept → SizesKept told (length result) (length work)
-    broadcast-kept e = kept-told over-told sizes e
+    broadcast-kept e = kept-told (told-either (overCount count) (any overRecord (recordsIn count s)) a-is b-is o-is) sizes e
 
   module _ (k : SizesKept told (length result) (length work)) (n : ℕ) (places : List ℕ) (are : standing n places s ≡ recordsIn count s) {t : Bool} (t-is : t ≡ all sound (standing n places s)) where
     all-told : all sound (recordsIn count s) ≡ t
