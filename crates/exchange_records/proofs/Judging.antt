@@ -18,7 +18,8 @@ use Rattle.cells.specs.declared.Sign.the-variants.{Natural, Negative}
 use Rattle.cells.specs.View.{signOf}
 use Rattle.records.proofs.EndToEnd.{to-end}
 use Rattle.shapes.proofs.Reading.{as-natural, as-over, as-over-negative}
-use Rattle.text.specs.Read.{readText}
+use Rattle.text.specs.Read.{Reading}
+use Rattle.record_text.specs.Texts.{textReading}
 use Rattle.record_text.specs.Lines.{refusedText}
 use Rattle.exchange_records.specs.Piles.{behindRecords}
 use Rattle.exchange_records.specs.Exchanges.{exchangesText, arePairs, recordsText, listText, readingText, answerText}
@@ -115,10 +116,6 @@ module _ (list : List ℤ) where
 
 -- ---- a text
 
-pub too-long : (text : List ℕ) → 65536 < length text → answerText text ≡ refusedText 3
+pub text-is : (text : List ℕ) {reading : Reading} → textReading text ≡ reading → answerText text ≡ readingText reading
 unfolding answerText
-too-long text h = rw (lt-ltb 65536 (length text) h)
-
-pub read-text : (text : List ℕ) → length text ≤ 65536 → answerText text ≡ readingText (readText text)
-unfolding answerText
-read-text text h = rw (le-ltb 65536 (length text) h)
+text-is text e = rw e

@@ -2,7 +2,7 @@
 use mathlib.Core.Bool.{Bool, false}
 use mathlib.Core.List.{List, [], _∷_, _++_}
 use Prim.Native.Nat.{ℕ, _*_}
-use lib.Dec.{eqb, ltb}
+use lib.Dec.{eqb}
 use lib.IntN.{ℤ, pos, negsuc}
 use lib.ListN.{length, drop}
 use Rattle.rules.specs.Limits.{workSize}
@@ -11,8 +11,9 @@ use Rattle.rules.specs.Refusals.{Verdict, given, refused}
 use Rattle.rules.specs.Record.{natural}
 use Rattle.rules.specs.Arguments.{overCount}
 use Rattle.rules.specs.Pile.{givenOr, exchangeCall}
-use Rattle.text.specs.Read.{Reading, numbers, other, readText}
+use Rattle.text.specs.Read.{Reading, numbers, other}
 use Rattle.record_text.specs.Lines.{refusedText}
+use Rattle.record_text.specs.Texts.{textReading}
 use Rattle.exchange_records.specs.Piles.{behindRecords, pileOf, pileText}
 
 -- 'made', or why an exchange is refused
@@ -50,4 +51,4 @@ readingText other = refusedText 3
 
 -- too much text and other text than numbers are judged first
 unfoldable pub answerText : List ℕ → List ℕ
-answerText text = if (ltb 65536 (length text)) (refusedText 3) (readingText (readText text))
+answerText text = readingText (textReading text)

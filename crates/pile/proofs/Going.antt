@@ -22,8 +22,7 @@ use Rattle.rules.specs.Lists.{if}
 use Rattle.rules.specs.Buffers.{over, zeros}
 use Rattle.rules.specs.Refusals.{Verdict, given, refused, inForm, numberOf, lowest}
 use Rattle.rules.specs.Endings.{workAfter}
-use Rattle.rules.specs.Union.{unionCall}
-use Rattle.rules.specs.Intersect.{intersectCall}
+use Rattle.rules.proofs.RecordPiles.{exchange-enough}
 use Rattle.rules.proofs.Buffers.{length-zeros, put-front}
 use Rattle.cells.proofs.Signed.{held, back}
 use Rattle.tables.specs.Tables.{Only}
@@ -38,11 +37,6 @@ one-of true t u p q = p
 one-of false t u p q = q
 
 -- ---- one exchange
-
--- a working buffer that is long enough is as good as any other
-any-long : (pile : List ℤ) (first second : ℤ) (n : ℕ) → workSize ≤ n → exchangeCall pile first second n ≡ exchangeCall pile first second workSize
-unfolding exchangeCall unionCall intersectCall
-any-long pile first second n h = rw (le-ltb n workSize h)
 
 -- a working buffer is cleared at its front alone
 cleared-front : (n : ℕ) (work : List ℤ) → n ≤ length work → Only 0 n work (over (zeros n) work)
@@ -120,7 +114,7 @@ module _ {pile pairs work : List ℤ} {made at : ℕ} {pile′ work′ : List �
     work-long = omega (arith, g .only .size, g .long)
 
     asked : Exchanged v pile′ work′ r pile″ work″
-    asked = rw (back first first-low, back second second-low, any-long pile′ first second (length work′) work-long) at x
+    asked = rw (back first first-low, back second second-low, exchange-enough pile′ first second (length work′) (le-ltb (length work′) workSize work-long)) at x
 
     next-only : Only 0 workSize work work″
     next-only = only-then (g .only) (rw (asked .work-is) (work-only v work′ work-long))

@@ -20,7 +20,7 @@ use rules::Walk;
 const SIXTH: usize = parts::WINDOW;
 
 // Where two different slots of a pile begin; or they are not such places.
-pub enum Slots {
+enum Slots {
     Two(usize, usize),
     Wrong,
 }

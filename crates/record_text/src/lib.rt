@@ -1,4 +1,4 @@
-// Records and refusals as lines of text, at the front of a lent slice of bytes.
+// Text for programs: a list of numbers read from it; records and refusals as lines, at the front of a lent slice of bytes.
 ghost use mathlib.Core.Path.{_≡_};
 ghost use mathlib.Core.Bool.{true};
 ghost use Prim.Native.Nat.{_+_, _-_, _*_, _≤_};
@@ -9,8 +9,21 @@ ghost use Rattle.text.specs.Placed.{Wrote};
 ghost use Rattle.record_text.specs.Lines.{layoutText, refusedText};
 ghost use Rattle.record_text.specs.Fronts.{Front};
 ghost use Rattle.record_text.specs.Sections.{lineFrom, fiveLines, InTurn};
+ghost use Rattle.record_text.specs.Texts.{ListRead};
 use rules::Refusal;
 use rules::Walk;
+use text::Read;
+
+// The numbers of a text go to the front of a slice. One byte over 65,536 is too much text.
+pub fn read_list(text: &[u8], numbers: &mut [i32]) -> Read
+    requires { ⌜ 32768 ≤ length (now numbers) ⌝ }
+    ensures { λ r. ⌜ ListRead (now (text .entry)) (now (numbers .exit)) r ⌝ }
+{
+    if 65536 < text.len() {
+        return Read::Other;
+    }
+    text::read_numbers(text, numbers)
+}
 
 // The five lines of a sound record, which can always be walked, go to the front of out; answers how many bytes they have.
 pub fn write_layout(s: &[i32], out: &mut [u8]) -> usize

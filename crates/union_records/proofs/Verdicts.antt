@@ -4,7 +4,6 @@ use mathlib.Core.Bool.{Bool, true, false, not, _&&_, _||_}
 use mathlib.Core.List.{List, [], _∷_}
 use Prim.Native.Nat.{ℕ, _-_, _<_, _≤_}
 use native.Mathlib.Omega.{arith}
-use borrow.Author.Tests.{lt-ltb, le-ltb}
 use lib.IntN.{ℤ}
 use lib.ListN.{length, take, drop, length-drop}
 use lib.Seq.{take-at}
@@ -24,21 +23,16 @@ use Rattle.rules.specs.Union.{union, unionCall}
 use Rattle.rules.proofs.Encoded.{encode-short, layout-alone, sound-alone}
 use Rattle.rules.proofs.Unions.{never, union-sound}
 use Rattle.records.proofs.EndToEnd.{to-end}
-use Rattle.text.specs.Read.{readText}
+use Rattle.text.specs.Read.{Reading}
+use Rattle.record_text.specs.Texts.{textReading}
 use Rattle.record_text.specs.Lines.{layoutText, refusedText, verdictText}
 use Rattle.union_records.specs.Unions.{unionOf, readingText, unionText}
 
 -- ---- a text
 
--- too much text is refused
-pub too-long : (text : List ℕ) → 65536 < length text → unionText text ≡ refusedText 3
+pub text-is : (text : List ℕ) {reading : Reading} → textReading text ≡ reading → unionText text ≡ readingText reading
 unfolding unionText
-too-long text h = rw (lt-ltb 65536 (length text) h)
-
--- other text is read
-pub read-text : (text : List ℕ) → length text ≤ 65536 → unionText text ≡ readingText (readText text)
-unfolding unionText
-read-text text h = rw (le-ltb 65536 (length text) h)
+text-is text e = rw e
 
 -- ---- leftovers
 

@@ -13,6 +13,7 @@ use Rattle.rules.specs.Union.{unionOfRows, union, unionCall}
 use Rattle.text.specs.Read.{valueFrom, wordOf, readFrom}
 use Rattle.text.specs.Written.{digitsIn, numberText, restText, lineText}
 use Rattle.record_text.specs.Lines.{layoutText, refusedText}
+use Rattle.record_text.specs.Texts.{textReading}
 use Rattle.union_records.specs.Unions.{unionOf, unionText}
 
 pub record Table : Type 0 where
@@ -33,5 +34,5 @@ pub record Table : Type 0 where
       ≡ 114 ∷ 101 ∷ 102 ∷ 117 ∷ 115 ∷ 101 ∷ 100 ∷ 32 ∷ 49 ∷ 10 ∷ []
 
 pub table : Table
-unfolding all keep gather none product same allBelow from part cmpRows increasing insert sorted sortedOnto lowest withinProduct wellFormed withinSizes soundLayout made entriesFrom sectionAt walk natural rowsOf entriesOf layoutBy layoutIn sound behindRecord positions removedRows removeDenseAxes listsRow lowered unionOfRows union unionCall valueFrom wordOf readFrom digitsIn numberText restText lineText layoutText refusedText unionOf unionText
+unfolding all keep gather none product same allBelow from part cmpRows increasing insert sorted sortedOnto lowest withinProduct wellFormed withinSizes soundLayout made entriesFrom sectionAt walk natural rowsOf entriesOf layoutBy layoutIn sound behindRecord positions removedRows removeDenseAxes listsRow lowered unionOfRows union unionCall valueFrom wordOf readFrom digitsIn numberText restText lineText layoutText refusedText textReading unionOf unionText
 table = record { united = refl; leftover = refl; empty = refl; letter = refl; five-extents = refl }
