@@ -1,4 +1,4 @@
-"""Requests made by hand: those at the limits, those with two faults, and the tests of the Rust's own that the rules reach.
+"""Requests made by hand: the positions worked by hand, those at the limits, those with two faults, and the tests of the Rust's own that the rules reach.
 
 All operations have theirs here; `tests/sample` takes those of the operations that the port has into the fixed list.
 """
@@ -40,6 +40,26 @@ def full(first=0, count=128):
     every = list(product(range(4), repeat=4))[first:first + count]
     deps = [(*index, sum(index)) for index in every]
     return sparse([4, 4, 4, 4], every, deps, deps)
+
+
+def worked_by_hand():
+    """The positions that the rules work by hand, P1 to P9, by name: each request with the answer that the rules give."""
+    square, moved = [2, 2], sparse([3, 2], [(2, 0), (0, 1)])
+    said = lambda layout: 'ok ' + ' '.join(map(str, layout))
+    return [
+        ('P1', line(22, sparse(square, [(1,)], D=1), sparse(square, [(1, 0)]), *BUFFERS), said(sparse(square, [(1, 0), (1, 1)]))),
+        ('P2', line(28, dense([3]), dense([8], [(k, k) for k in (2, 5, 6, 7)]), 5, 8, *BUFFERS), said(dense([3], [(0, 5), (1, 6), (2, 7)]))),
+        ('P3', line(1, [1, 1, 1, 0], 2), 'refused 6'),
+        ('P3', line(1, [1, 2, 2, 2, 3], 2), 'ok 2 2 3'),
+        ('P3', line(1, [1, 3, 2, 2, 3], 2), 'refused 6'),
+        ('P4', line(7, dense([1, 3]), [4, 2]), 'found 2'),
+        ('P5', line(7, record(DIAGONAL, 0, [1, 1]), [3, 3]), 'nothing'),
+        ('P6', line(19, dense([1, 1], [(0, 0, 7)]), [2, *square], *BUFFERS), said(dense(square, [(0, 0, 7), (0, 1, 7), (1, 0, 7)]))),
+        ('P7', line(24, sparse(square, [(1,)], D=1), *BUFFERS), said(sparse([2], []))),
+        ('P8', line(27, [], 0, 3, *BUFFERS), 'ok 0 0 0 0 0 0'),
+        ('P9', line(25, sparse([2, 3], [(0, 2), (1, 0)]), [1, 0], *BUFFERS), said(moved)),
+        ('P9', line(7, moved, [2, 0]), 'refused 4'),
+    ]
 
 
 def limits_of_records():
@@ -145,5 +165,6 @@ def ranges_of_the_rust():
 
 def all_cases():
     """Every request made by hand, once."""
-    parts = (limits_of_records(), limits_of_pairs(), limits_of_others(), two_faults(), tests_of_the_rust(), ranges_of_the_rust())
+    positions = [request for _, request, _ in worked_by_hand()]
+    parts = (positions, limits_of_records(), limits_of_pairs(), limits_of_others(), two_faults(), tests_of_the_rust(), ranges_of_the_rust())
     return list(dict.fromkeys(request for part in parts for request in part))

@@ -1,17 +1,17 @@
 #!/usr/bin/env python3
 """answers.py < REQUESTS: the answers of the reading of the rules (rules.py) to request lines; REQUESTS.md says what a line is.
 
-`answers.py union-records` and `answers.py optimiser-example` print what the programs of these names print.
+`answers.py union-records`, `answers.py exchange-records` and `answers.py optimiser-example` print what the programs of these names print.
 """
 import sys
 from rules import (Block, Layout, MAX_COUNT, MAX_RANK, MAX_STATES, PATTERN_NUMBERS, Refusal, SPARSE, WORDS, arguments,
                    broadcast, broadcast_shapes, broadcast_to_rank, broadcast_to_shape, can_broadcast_to,
                    check_proposal, cmp_index, concatenate, contract_last_axis, convert, counts_as_zero, dense,
-                   diagonal, eq_nonzeros, eq_nonzeros_and_deps, filter_deps_from, first_step, good_components,
-                   good_content, good_end, good_index, intersect, landed, lookup, lookup_by_summary, min_rank,
-                   new_empty, new_scalar, nnz, numbers, ordered, pattern, permute, ravel_index, row_by_number, sound,
-                   sparse, summary, to_data_layout, to_dense, union, unravel_index, walk_block, walk_list, walk_record,
-                   walk_shape)
+                   diagonal, eq_nonzeros, eq_nonzeros_and_deps, exchange, filter_deps_from, first_step,
+                   good_components, good_content, good_end, good_index, intersect, landed, lookup, lookup_by_summary,
+                   min_rank, new_empty, new_scalar, nnz, numbers, ordered, pattern, permute, ravel_index,
+                   row_by_number, sound, sparse, summary, to_data_layout, to_dense, union, unravel_index, walk_block,
+                   walk_list, walk_record, walk_shape)
 
 
 # ---- what a line says
@@ -349,18 +349,55 @@ def shown_lines(l):
         deps(l.state), deps(l.inputs))]
 
 
-def union_records(text):
-    """What the program `union_records` prints for a text."""
+def text_numbers(text):
+    """The numbers of a text; nothing where it is too long, or other text than 32-bit numbers."""
     words = [w for w in text.replace("\n", " ").split(" ") if w]
     plain = lambda w: w.removeprefix("-").isdigit() and w.isascii()
     if len(text.encode()) > 65536 or not all(map(plain, words)) or not all(-2**31 <= int(w) < 2**31 for w in words):
+        return None
+    return tuple(map(int, words))
+
+
+def union_records(text):
+    """What the program `union_records` prints for a text."""
+    s = text_numbers(text)
+    if s is None:
         return say("refused", 3)
-    s = tuple(map(int, words))
     records = walk_list(walk_record, s, 2)
     if records[-1].end != len(s):
         return say("refused", 3)
     made = arguments(records=records) or first_step((records[0].layout, records[1].layout), union)
     return answered(made, lambda l: "\n".join(shown_lines(l)))
+
+
+def pile_and_pairs(s):
+    """The records of a pile and the pairs of places behind them, or the refusal of the whole."""
+    if not s:
+        return Refusal(3)
+    if not 0 <= s[0] <= MAX_COUNT:
+        return Refusal(1)
+    pile = walk_list(walk_record, s[1:], s[0])
+    rest = s[1 + (pile[-1].end if pile else 0):]
+    if not rest or rest[0] < 0 or len(rest) != 1 + 2 * rest[0]:
+        return Refusal(3)
+    return pile, tuple(zip(rest[1::2], rest[2::2]))
+
+
+def exchange_records(text):
+    """What the program `exchange_records` prints for a text."""
+    s = text_numbers(text)
+    got = Refusal(3) if s is None else pile_and_pairs(s)
+    if isinstance(got, Refusal):
+        return say("refused", got.number)
+    pile, pairs = got
+    lines = []
+    for first, second in pairs:
+        new = exchange(pile, first, second)
+        lines.append(answered(new, lambda _: "made"))
+        pile = pile if isinstance(new, Refusal) else new
+    for walked in pile:
+        lines += shown_lines(walked.layout) if sound(walked) else [say("refused", 3)]
+    return "\n".join(lines)
 
 
 def optimiser_example():
@@ -372,7 +409,8 @@ def optimiser_example():
 
 def main():
     """Answers request lines, or does what one of the two programs does."""
-    programs = {"optimiser-example": optimiser_example, "union-records": lambda: union_records(sys.stdin.read())}
+    programs = {"optimiser-example": optimiser_example, "union-records": lambda: union_records(sys.stdin.read()),
+                "exchange-records": lambda: exchange_records(sys.stdin.read())}
     if sys.argv[1:]:
         print(programs[sys.argv[1]]())
         return

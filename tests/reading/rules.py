@@ -678,6 +678,24 @@ def intersect(a, b, order=0):
     return then(merged_and_filtered(common, x, y, order), fill_to_dense)
 
 
+# ---- the pile
+
+def exchange(pile, first, second):
+    """The pile with the union and the intersection of the records at two places there: 5, then as the two calls refuse."""
+    if not (0 <= first < len(pile) and 0 <= second < len(pile) and first != second):
+        return Refusal(5)
+    pair = (pile[first], pile[second])
+    layouts = (pair[0].layout, pair[1].layout)
+    either = arguments(records=pair) or first_step(layouts, union)
+    if isinstance(either, Refusal):
+        return either
+    both = arguments(records=pair, to_be_ordered=pair) or first_step(layouts, intersect)
+    if isinstance(both, Refusal):
+        return both
+    new = {first: either, second: both}
+    return tuple(Walked(new[i], new[i].rank, 0) if i in new else w for i, w in enumerate(pile))
+
+
 # ---- 10. contract_last_axis
 
 def contract_last_axis(l):

@@ -1,4 +1,5 @@
 // Operations that are lent a result buffer and a working buffer. The last two numbers of a request are their lengths.
+use requests::byte;
 use requests::list;
 use requests::number;
 use rules::Written;
@@ -53,8 +54,29 @@ fn answer(
             work,
             out,
         ),
+        28 => of_range(request, at, result, work, out),
         _ => of_one(request, at, result, work, out),
     }
+}
+
+// The same for two records and a range.
+fn of_range(
+    request: &[i32],
+    at: [usize; 7],
+    result: &mut [i32],
+    work: &mut [i32],
+    out: &mut [u8],
+) -> usize {
+    let target = list(request, at[0]);
+    let source = list(request, at[1]);
+    let start = number(request, at[2]);
+    let end = number(request, at[3]);
+    ended(
+        layout::filter_deps_from(target, source, start, end, result, work),
+        result,
+        work,
+        out,
+    )
 }
 
 // The same where one slice is all that a call takes but for numbers; unknown if the operation is not there yet.
@@ -76,6 +98,12 @@ fn of_one(
         ),
         24 => ended(
             layout::contract_last_axis(first, result, work),
+            result,
+            work,
+            out,
+        ),
+        26 => ended(
+            layout::broadcast(first, asked, byte(request, at[2]), result, work),
             result,
             work,
             out,

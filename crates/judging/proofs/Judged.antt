@@ -4,7 +4,8 @@ use mathlib.Core.Bool.{Bool, true, false, not, _&&_, _||_}
 use mathlib.Core.List.{List, [], _∷_}
 use Prim.Native.Nat.{ℕ}
 use borrow.Author.Tests.{not-true, not-false}
-use Rattle.rules.specs.Refusals.{Verdict, given, refused, _then_, Reason, _when_, lowest}
+use Rattle.rules.specs.declared.Refusal.the-variants.{WrongArgument}
+use Rattle.rules.specs.Refusals.{Verdict, given, refused, _then_, numberOf, Reason, _when_, lowest}
 
 -- ---- reasons
 
@@ -38,6 +39,16 @@ module _ (n : ℕ) (holds : Bool) (rest : List Reason) where
   pub reason-passed : holds ≡ false → lowest (n when holds ∷ rest) ≡ lowest rest
   unfolding lowest
   reason-passed e = rw e
+
+-- 5 alone: an argument is wrong, or none is
+module _ (wrong : Bool) where
+  pub argument-wrong : wrong ≡ true → lowest (5 when wrong ∷ []) ≡ refused (numberOf WrongArgument)
+  unfolding numberOf
+  argument-wrong e = reason-holds 5 wrong [] e
+
+  pub argument-right : wrong ≡ false → lowest (5 when wrong ∷ []) ≡ given tt
+  unfolding lowest
+  argument-right e = reason-passed 5 wrong [] e
 
 -- ---- tests that a reason is made of
 

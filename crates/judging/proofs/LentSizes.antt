@@ -45,10 +45,14 @@ module _ {over : Bool} {result work : ℕ} {r : Sizes} (p : SizesAre over result
   pub refused-sizes : {why : Refusal} → r ≡ Refused why → SizesRefused over result work why
   refused-sizes e = subst (SizesAre over result work) e p
 
--- whether a count is over its limit was told by two tests
-module _ (x y : Bool) {a b o : Bool} (a-is : a ≡ x) (b-is : b ≡ y) (o-is : o ≡ a || b) {result work : ℕ} {r : Sizes} (p : SizesAre o result work r) where
-  pub kept-told : r ≡ Kept → SizesKept (x || y) result work
-  kept-told e = subst (λ (t : Bool). SizesKept t result work) (o-is ∙ rw (a-is, b-is)) (kept-sizes p e)
+-- whether a count is over its limit, as it was told
+module _ {x o : Bool} (o-is : o ≡ x) {result work : ℕ} {r : Sizes} (p : SizesAre o result work r) where
+  pub kept-told : r ≡ Kept → SizesKept x result work
+  kept-told e = subst (λ (t : Bool). SizesKept t result work) o-is (kept-sizes p e)
 
-  pub refused-told : {why : Refusal} → r ≡ Refused why → SizesRefused (x || y) result work why
-  refused-told {why} e = subst (λ (t : Bool). SizesRefused t result work why) (o-is ∙ rw (a-is, b-is)) (refused-sizes p e)
+  pub refused-told : {why : Refusal} → r ≡ Refused why → SizesRefused x result work why
+  refused-told {why} e = subst (λ (t : Bool). SizesRefused t result work why) o-is (refused-sizes p e)
+
+-- and told by two tests
+pub told-either : (x y : Bool) {a b o : Bool} → a ≡ x → b ≡ y → o ≡ a || b → o ≡ x || y
+told-either x y e f g = g ∙ rw (e, f)

@@ -4,6 +4,7 @@ pub mod Required
 pub mod SoundRecords
 pub mod Results
 pub mod Shapes
+pub mod RangeEnds
 pub mod LentSizes
 pub mod Endings
 pub mod RecordCalls

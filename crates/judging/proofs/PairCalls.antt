@@ -29,7 +29,7 @@ use Rattle.parts.proofs.Ending.{AboveTwo, Late}
 use Rattle.judging.specs.declared.Sizes.{Sizes}
 use Rattle.judging.specs.declared.Sizes.the-variants.{Kept, Refused}
 use Rattle.judging.specs.LentSizes.{sizeReasons, SizesKept, SizesAre}
-use Rattle.judging.proofs.LentSizes.{kept-told, refused-told}
+use Rattle.judging.proofs.LentSizes.{kept-told, refused-told, told-either}
 use Rattle.judging.proofs.SoundRecords.{unsound-first, unsound-second, pair-unsound, pair-passed}
 use Rattle.judging.proofs.Endings.{ends-early, ends-late, ends-done}
 
@@ -46,10 +46,10 @@ module _ (rule : Layout → Layout → Verdict Layout) (more : List Reason) (s t
     pub pair-early : {why : Refusal} → r ≡ Refused why → Ends (inForm encode call) result work (NotWritten why) result work
     pair-early e =
         ends-early (overRecord s || overRecord t) reasons (rule (layoutIn s) (layoutIn t)) result work
-        (refused-told (overRecord s) (overRecord t) a-is b-is o-is sizes e)
+        (refused-told (told-either (overRecord s) (overRecord t) a-is b-is o-is) sizes e)
 
     pub pair-kept : r ≡ Kept → SizesKept (overRecord s || overRecord t) (length result) (length work)
-    pair-kept e = kept-told (overRecord s) (overRecord t) a-is b-is o-is sizes e
+    pair-kept e = kept-told (told-either (overRecord s) (overRecord t) a-is b-is o-is) sizes e
 
   module _ (k : SizesKept (overRecord s || overRecord t) (length result) (length work)) where
     -- a later reason

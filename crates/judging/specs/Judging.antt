@@ -1,20 +1,22 @@
--- A shape beside a result, and two records, judged.
+-- A shape beside a result, two records, and a range, judged.
 use mathlib.Core.Path.{_≡_}
-use mathlib.Core.Bool.{not, _&&_, _||_}
+use mathlib.Core.Bool.{true, false, not, _&&_, _||_}
 use mathlib.Core.List.{List, [], _∷_}
 use Prim.Native.Nat.{ℕ, _≤_}
 use lib.IntN.{ℤ}
 use Rattle.rules.specs.declared.Head.{Head}
 use Rattle.rules.specs.Limits.{resultSize}
 use Rattle.rules.specs.Refusals.{given, refused, numberOf, Reason, _when_, lowest}
-use Rattle.rules.specs.Record.{sound, goodShape}
-use Rattle.rules.specs.Arguments.{overRecord, overShape, shortResult}
+use Rattle.rules.specs.Record.{natural, sound, goodShape}
+use Rattle.rules.specs.Arguments.{overRecord, overShape, shortResult, goodEnd}
 use Rattle.records.specs.Sound.{SoundRecord}
 use Rattle.shapes.specs.Judged.{Judged}
 use Rattle.judging.specs.declared.Shape.{Shape}
 use Rattle.judging.specs.declared.Shape.the-variants.{Good, Refused}
 use Rattle.judging.specs.declared.Pair.{Pair}
 use Rattle.judging.specs.declared.Pair.the-variants.{Sound, Refused as NoPair}
+use Rattle.judging.specs.declared.Range.{Range}
+use Rattle.judging.specs.declared.Range.the-variants.{Within, Wrong}
 
 -- ---- a shape
 
@@ -47,3 +49,15 @@ pub record BothSound (s t : List ℤ) (x y : Head) : Type 0 where
 abbrev pub PairIs : List ℤ → List ℤ → Pair → Type 0
 PairIs s t (Sound x y) = BothSound s t x y
 PairIs s t (NoPair why) = lowest (pairReasons s t) ≡ refused (numberOf why)
+
+-- ---- a range
+
+-- its start and its end are within their limit
+pub record RangeGood (start end : ℤ) (from to : ℕ) : Type 0 where
+  pub good : goodEnd start && goodEnd end ≡ true
+  pub from-is : from ≡ natural start
+  pub to-is : to ≡ natural end
+
+abbrev pub RangeIs : ℤ → ℤ → Range → Type 0
+RangeIs start end (Within from to) = RangeGood start end from to
+RangeIs start end Wrong = goodEnd start && goodEnd end ≡ false

@@ -4,7 +4,7 @@ ghost use mathlib.Core.Path.{_≡_};
 ghost use mathlib.Core.Bool.{_||_};
 ghost use Rattle.rules.specs.Arguments.{overRank};
 ghost use Rattle.judging.specs.LentSizes.{SizesAre};
-ghost use Rattle.judging.specs.Judging.{ShapeIs, PairIs};
+ghost use Rattle.judging.specs.Judging.{ShapeIs, PairIs, RangeIs};
 use cells::Sign;
 use rules::Head;
 use rules::Refusal;
@@ -26,6 +26,12 @@ pub enum Shape {
 pub enum Pair {
     Sound(Head, Head),
     Refused(Refusal),
+}
+
+// The start and the end of a range, or that one of them is wrong.
+pub enum Range {
+    Within(usize, usize),
+    Wrong,
 }
 
 // Whether one of two tests holds.
@@ -97,4 +103,23 @@ pub fn judge_pair(a: &[i32], b: &[i32]) -> Pair
         return Pair::Refused(Refusal::Unsound);
     };
     Pair::Sound(first, second)
+}
+
+// A range: its start and its end are each from 0 to 65,536.
+pub fn judge_range(start: i32, end: i32) -> Range
+    ensures { λ r. ⌜ RangeIs start end r ⌝ }
+{
+    let Sign::Natural(from) = cells::sign_of(start) else {
+        return Range::Wrong;
+    };
+    let Sign::Natural(to) = cells::sign_of(end) else {
+        return Range::Wrong;
+    };
+    if rules::PRODUCT_LIMIT < from {
+        return Range::Wrong;
+    }
+    if rules::PRODUCT_LIMIT < to {
+        return Range::Wrong;
+    }
+    Range::Within(from, to)
 }

@@ -94,7 +94,7 @@ unfolding any
 any-of test f [] = refl
 any-of test f (x ∷ l) = ap (λ (t : Bool). test (f x) || t) (any-of test f l)
 
-all-of : {A B : Type 0} (test : B → Bool) (f : A → B) (l : List A) → all test (map f l) ≡ all (λ x. test (f x)) l
+pub all-of : {A B : Type 0} (test : B → Bool) (f : A → B) (l : List A) → all test (map f l) ≡ all (λ x. test (f x)) l
 unfolding all
 all-of test f [] = refl
 all-of test f (x ∷ l) = ap (λ (t : Bool). test (f x) && t) (all-of test f l)
@@ -171,6 +171,9 @@ count-few (pos n) = by (leb n listLimit) refl
     by true e = leb-true n listLimit e
     by false e = omega arith
 count-few (negsuc n) = omega arith
+
+pub few-listed : (n : ℤ) {m : ℕ} → m ≡ listCount n → m ≤ listLimit
+few-listed n e = rw e (count-few n)
 
 -- a rank that is not negative walks the blocks of a list
 pub blocks-listed : (n : ℤ) (rank : ℕ) (s : List ℤ) → blocksIn n (pos rank) s ≡ map (blockAt rank) (endToEnd (behindBlock rank) (listCount n) s)

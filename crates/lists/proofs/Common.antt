@@ -41,24 +41,24 @@ larger-first x y h = rw (le-ltb x y h)
 
 pub ruleset larger-laws = (larger-second, larger-first)
 
-zero-larger : (x : ℕ) → larger 0 x ≡ x
+pub zero-larger : (x : ℕ) → larger 0 x ≡ x
 zero-larger zero = refl
 zero-larger (suc x) = rw (lt-ltb 0 (suc x) (omega arith))
 
 -- the larger one is one of both, and neither is above it
-record Larger (x y z : ℕ) : Type 0 where
-  first : x ≤ z
-  second : y ≤ z
-  least : (m : ℕ) → x ≤ m → y ≤ m → z ≤ m
+pub record Larger (x y z : ℕ) : Type 0 where
+  pub first : x ≤ z
+  pub second : y ≤ z
+  pub least : (m : ℕ) → x ≤ m → y ≤ m → z ≤ m
 
-larger-is : (x y : ℕ) → Larger x y (larger x y)
+pub larger-is : (x y : ℕ) → Larger x y (larger x y)
 larger-is x y = by (ltb x y) refl
   where
     by : (t : Bool) → ltb x y ≡ t → Larger x y (larger x y)
     by true e = let h = ltb-true x y e in rw e (record { first = omega arith; second = omega arith; least = λ m p q. q })
     by false e = let h = ltb-false x y e in rw e (record { first = omega arith; second = omega arith; least = λ m p q. p })
 
-larger-assoc : (x y z : ℕ) → larger (larger x y) z ≡ larger x (larger y z)
+pub larger-assoc : (x y z : ℕ) → larger (larger x y) z ≡ larger x (larger y z)
 larger-assoc x y z =
     let a = larger-is x y in
     let b = larger-is y z in

@@ -1,18 +1,18 @@
--- Where blocks start, gathered one after the other. Assumes nothing.
+-- The flag of a block, and where blocks start, gathered one after the other. Assumes nothing.
 use mathlib.Core.Path.{_≡_, refl, sym, _∙_}
 use mathlib.Core.Bool.{Bool, true, false}
 use mathlib.Core.List.{List, [], _∷_, map}
 use Prim.Native.Nat.{ℕ, zero, suc, _+_, _-_, _<_, _≤_}
 use native.Mathlib.Omega.{arith}
 use borrow.Author.Tests.{leb-true, ltb-true, ltb-false}
-use lib.Dec.{leb, ltb}
+use lib.Dec.{eqb, leb, ltb}
 use lib.IntN.{ℤ, pos, negsuc}
 use lib.ListN.{length, getD, take, drop, set, replicate, length-map, length-take, List·getD-eq-default}
 use lib.Seq.{take-nil, getD-take, ext-getD}
 use Rattle.rules.specs.Lists.{all}
 use Rattle.rules.specs.Record.{natural, naturals, RawBlock, blockAt}
 use Rattle.rules.specs.Arguments.{upTo, goodEnd, goodFlag}
-use Rattle.rules.specs.Concatenate.{goodBlock}
+use Rattle.rules.specs.Concatenate.{goodBlock, blockOf}
 use Rattle.rules.proofs.Same.{both-true}
 use Rattle.records.proofs.Sections.{other-default}
 use Rattle.shapes.proofs.Reading.{natural-getD}
@@ -20,6 +20,13 @@ use Rattle.lists.specs.Places.{standing, Inside}
 use Rattle.lists.specs.Starts.{blocksAt, startsIn, StartOf, StartsOf}
 use Rattle.lists.proofs.Entering.{Entered, same-entry, entered-none, entered-more, Filled, filled-start, filled-turn}
 use Rattle.lists.proofs.Beginning.{length-standing, lent-at, place-inside, place-fits}
+
+-- ---- the flag
+
+-- the flag of a block stands behind its start
+pub flag-read : (rank : ℕ) (s : List ℤ) {n : ℕ} → n ≡ natural (getD s rank (pos 0)) → eqb n 1 ≡ blockOf (blockAt rank s) .zero
+unfolding blockOf blockAt
+flag-read rank s e = rw e
 
 -- ---- one start
 

@@ -31,7 +31,7 @@ fn measured(what: Measure, s: &[i32]) -> usize
 }
 
 // The larger of two numbers.
-fn larger(x: usize, y: usize) -> usize
+pub fn larger(x: usize, y: usize) -> usize
     ensures { λ r. ⌜ r ≡ larger x y ⌝ }
 {
     if x < y {

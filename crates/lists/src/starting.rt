@@ -1,11 +1,11 @@
-// Where blocks start.
+// What stands in front of the record of a block: its start and its flag.
 ghost use mathlib.Core.Path.{_≡_};
 ghost use mathlib.Core.Bool.{true};
 ghost use Prim.Native.Nat.{_≤_};
 ghost use Rattle.rules.specs.Limits.{rankLimit};
 ghost use Rattle.rules.specs.Lists.{all};
 ghost use Rattle.rules.specs.Record.{naturals, blockAt};
-ghost use Rattle.rules.specs.Concatenate.{goodBlock};
+ghost use Rattle.rules.specs.Concatenate.{goodBlock, blockOf};
 ghost use Rattle.lists.specs.Places.{Inside};
 ghost use Rattle.lists.specs.Starts.{blocksAt, startsIn, StartOf, StartsOf};
 
@@ -33,4 +33,11 @@ pub fn block_starts(s: &[i32], places: [usize; 16], n: usize, rank: usize) -> [[
         starts[b] = start_of(&s[at..], rank);
     }
     starts
+}
+
+// Whether the block of the asked rank at the front of a slice is flagged as zero.
+pub fn is_zero(s: &[i32], rank: usize) -> bool
+    ensures { λ r. ⌜ r ≡ blockOf (blockAt rank (now (s .entry))) .zero ⌝ }
+{
+    shapes::natural_at(s, rank) == 1
 }

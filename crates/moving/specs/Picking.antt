@@ -2,9 +2,10 @@
 use mathlib.Core.List.{List, map}
 use Prim.Native.Nat.{ℕ, _+_, _^_, _<_, _≤_}
 use lib.IntN.{ℤ}
-use lib.ListN.{length, getD}
+use lib.ListN.{length, getD, set}
 use Rattle.rules.specs.declared.Entries.{Entries}
 use Rattle.rules.specs.Limits.{entryLimit}
+use Rattle.rules.specs.Lists.{below}
 use Rattle.rules.specs.RowsInOrder.{sorted}
 use Rattle.rules.specs.Layout.{Layout}
 use Rattle.tables.specs.Rows.{HasRows}
@@ -15,6 +16,10 @@ use Rattle.moving.specs.Sections.{TableIs}
 -- each number of the new row is the one at a place of the old row, or a missing one where the place lies behind it
 unfoldable pub picked : ℕ → List ℕ → List ℕ → List ℕ
 picked missing places row = map (λ j. getD row j missing) places
+
+-- the first components of an index, so many of them, and then the number that stands behind `rank` components
+unfoldable pub shorterPlaces : ℕ → ℕ → List ℕ
+shorterPlaces kept rank = set (below 5) kept rank
 
 -- a row of `width` numbers, of which w are picked, with a missing one that a slice can hold
 pub record RowAsked (at width missing w : ℕ) (s : List ℤ) : Type 0 where

@@ -10,7 +10,7 @@ ghost use Rattle.tables.specs.Rows.{rowAt, rowsAt};
 ghost use Rattle.records.specs.Sound.{SoundRecord};
 ghost use Rattle.parts.specs.Parts.{partSize};
 ghost use Rattle.moving.specs.Sections.{HeadAsked, HeadMade, TableMade};
-ghost use Rattle.moving.specs.Picking.{picked, RowAsked, PickAsked, DepsPicked};
+ghost use Rattle.moving.specs.Picking.{picked, shorterPlaces, RowAsked, PickAsked, DepsPicked};
 use rules::Entries;
 use rules::Head;
 
@@ -23,6 +23,17 @@ pub fn write_head(part: &mut [i32], kind: usize, dense: usize, extents: &[i32])
     cells::store(part, parts::DENSE, dense);
     cells::store(part, parts::RANK, extents.len());
     cells::copy_into(extents, part, parts::EXTENTS);
+}
+
+// The places of the numbers of a dependency that is shortened: so many components of its index, then its number, which stands behind
+// `rank` components.
+pub fn shorter_places(kept: usize, rank: usize) -> [usize; 5]
+    requires { ⌜ kept ≤ 4 ⌝ }
+    ensures { λ r. ⌜ r ≡ shorterPlaces kept rank ⌝ }
+{
+    let mut places = [0usize, 1, 2, 3, 4];
+    places[kept] = rank;
+    places
 }
 
 // A row of w numbers by value: each is the one at a place of the row of `width` numbers that stands at `at`, or the missing number

@@ -2,3 +2,4 @@
 pub mod InWindow
 pub mod Unions
 pub mod Intersections
+pub mod Filters

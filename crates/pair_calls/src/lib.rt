@@ -1,4 +1,8 @@
-// The public functions that make one layout of two, modules 8 and 9: both records are loaded into the window, and a step combines them there.
+// The public functions that make one layout of two. Modules 8 and 9: both records are loaded into the window, and a step combines them there;
+// module 14: the step reads both where they lie, and makes the new layout in the first part of the working buffer.
+mod filter; // filter.rt: module 14
+
+pub use filter::filter_deps_from;
 ghost use mathlib.Core.Path.{_≡_};
 ghost use mathlib.Core.Bool.{_&&_};
 ghost use lib.ListN.{length};

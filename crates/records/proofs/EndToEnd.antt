@@ -1,16 +1,13 @@
 -- Things end to end in a slice, walked from one to the next: `behind` gives what stands behind the one at the front. Assumes nothing.
-use mathlib.Core.Path.{_≡_, refl, sym, ap, _∙_}
-use mathlib.Core.Bool.{Bool, true, false}
+use mathlib.Core.Path.{_≡_, refl, ap}
 use mathlib.Core.List.{List, [], _∷_}
 use Prim.Native.Nat.{ℕ, zero, suc, _+_, _-_, _<_, _≤_}
 use native.Mathlib.Nat.{add-zero, sub-zero}
 use native.Mathlib.Numerals.{sub-one}
 use native.Mathlib.Omega.{arith}
-use borrow.Author.Tests.{not-true, not-false}
 use lib.IntN.{ℤ}
 use lib.ListN.{length, getD, take, drop, length-drop}
 use lib.Seq.{take-all, drop-drop, getD-drop}
-use Rattle.rules.specs.Lists.{all, any}
 use Rattle.rules.specs.Record.{endToEnd}
 use Rattle.records.specs.EndToEnd.{Behind}
 
@@ -41,61 +38,6 @@ module _ (behind : List ℤ → List ℤ) where
   unfolding endToEnd
   length-end-to-end zero s = refl
   length-end-to-end (suc n) s = ap suc (length-end-to-end n (behind s))
-
--- ---- whether some of n things pass a test, or all of them
-
--- whether one passes is known by those that are left
-pub record AnyLeft (behind : List ℤ → List ℤ) (test : List ℤ → Bool) (n : ℕ) (s : List ℤ) (left at : ℕ) : Type 0 where
-  pub inside : at ≤ length s
-  pub eq : any test (endToEnd behind n s) ≡ any test (endToEnd behind left (drop at s))
-
--- whether all of them do
-pub record AllLeft (behind : List ℤ → List ℤ) (test : List ℤ → Bool) (n : ℕ) (s : List ℤ) (left at : ℕ) : Type 0 where
-  pub inside : at ≤ length s
-  pub eq : all test (endToEnd behind n s) ≡ all test (endToEnd behind left (drop at s))
-
-pub any-left-start : {behind : List ℤ → List ℤ} {test : List ℤ → Bool} {n : ℕ} {s : List ℤ} → AnyLeft behind test n s n 0
-any-left-start = record { inside = omega arith; eq = refl }
-
-pub all-left-start : {behind : List ℤ → List ℤ} {test : List ℤ → Bool} {n : ℕ} {s : List ℤ} → AllLeft behind test n s n 0
-all-left-start = record { inside = omega arith; eq = refl }
-
--- the test was put to the thing that begins here
-module _ (behind : List ℤ → List ℤ) (test : List ℤ → Bool) (n : ℕ) (s : List ℤ) (left at : ℕ) {b : Bool} (h : 0 < left)
-    (e : b ≡ test (take (length s - at) (drop at s))) where
-  shown : b ≡ test (drop at s)
-  shown = e ∙ ap test (to-end at s)
-
-  pub any-left-turn : {at′ : ℕ} → AnyLeft behind test n s left at → Behind behind at s at′ → b ≡ false →
-      AnyLeft behind test n s (left - 1) at′
-  unfolding any
-  any-left-turn {at′} p k f = record { inside = k .inside; eq = p .eq ∙ rw (next-left behind left at at′ s h k, ← shown, f) }
-
-  pub all-left-turn : {at′ : ℕ} → AllLeft behind test n s left at → Behind behind at s at′ → b ≡ true →
-      AllLeft behind test n s (left - 1) at′
-  unfolding all
-  all-left-turn {at′} p k f = record { inside = k .inside; eq = p .eq ∙ rw (next-left behind left at at′ s h k, ← shown, f) }
-
-  pub any-left-stop : AnyLeft behind test n s left at → b ≡ true → true ≡ any test (endToEnd behind n s)
-  unfolding any
-  any-left-stop p f = sym (p .eq ∙ rw (first-left behind left (drop at s) h, ← shown, f))
-
-  pub all-left-stop : AllLeft behind test n s left at → b ≡ false → false ≡ all test (endToEnd behind n s)
-  unfolding all
-  all-left-stop p f = sym (p .eq ∙ rw (first-left behind left (drop at s) h, ← shown, f))
-
-module _ {behind : List ℤ → List ℤ} {test : List ℤ → Bool} {n : ℕ} {s : List ℤ} {left at : ℕ} where
-  pub any-left-done : AnyLeft behind test n s left at → left ≤ 0 → false ≡ any test (endToEnd behind n s)
-  unfolding any
-  any-left-done p h = sym (p .eq ∙ rw (none-left behind left (drop at s) h))
-
-  pub all-left-done : AllLeft behind test n s left at → left ≤ 0 → true ≡ all test (endToEnd behind n s)
-  unfolding all
-  all-left-done p h = sym (p .eq ∙ rw (none-left behind left (drop at s) h))
-
-pub ruleset any-left = (any-left-start, any-left-turn, any-left-stop, any-left-done)
-
-pub ruleset all-left = (all-left-start, all-left-turn, all-left-stop, all-left-done, not-true, not-false)
 
 -- ---- where the thing of a number begins
 

@@ -4,3 +4,4 @@ pub mod Judging
 pub mod Sound
 pub mod EndToEnd
 pub mod Slices
+pub mod Readers

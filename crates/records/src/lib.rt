@@ -1,5 +1,7 @@
 // A record in a slice: its sections walked, its soundness and order judged, a row of it found. The only crate that knows where
 // a number of a record stands.
+mod reader; // reader.rt: a record with a place in it, read section by section
+
 ghost use mathlib.Core.Path.{_≡_};
 ghost use mathlib.Core.Bool.{true};
 ghost use Prim.Native.Nat.{_+_, _*_, _^_, _<_, _≤_};
@@ -48,11 +50,16 @@ pub fn section_at(s: &[i32], at: usize, width: usize) -> Section
     })
 }
 
-// The head of the record at the front of a slice, if the record can be walked to its end.
+// The head of the record at the front of a slice, if the record can be walked to its end. Its first section stands behind two numbers.
 pub fn walk_record(s: &[i32]) -> Walk
     ensures { λ r. ⌜ r ≡ walk (now (s .entry)) ⌝ }
 {
-    let Section::Whole(extents) = section_at(s, 2, 1) else {
+    let front = Entries {
+        count: 2,
+        first: 0,
+        next: 2,
+    };
+    let Section::Whole(extents) = reader::section_behind(s, front, 1) else {
         return Walk::Broken;
     };
     let rank = extents.count;
@@ -61,13 +68,13 @@ pub fn walk_record(s: &[i32]) -> Walk
     let Sign::Natural(width) = cells::less_by(rank, dense) else {
         return Walk::Broken;
     };
-    let Section::Whole(rows) = section_at(s, extents.next, width) else {
+    let Section::Whole(rows) = reader::section_behind(s, extents, width) else {
         return Walk::Broken;
     };
-    let Section::Whole(states) = section_at(s, rows.next, rank + 1) else {
+    let Section::Whole(states) = reader::section_behind(s, rows, rank + 1) else {
         return Walk::Broken;
     };
-    let Section::Whole(inputs) = section_at(s, states.next, rank + 1) else {
+    let Section::Whole(inputs) = reader::section_behind(s, states, rank + 1) else {
         return Walk::Broken;
     };
     Walk::To(Head {

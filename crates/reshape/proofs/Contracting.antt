@@ -19,54 +19,37 @@ use Rattle.rules.specs.RowsInOrder.{sorted, Each}
 use Rattle.rules.specs.Refusals.{numberOf}
 use Rattle.rules.specs.Buffers.{part}
 use Rattle.rules.specs.Layout.{Layout, rank, isDense, isDiagonal, isSparse, nonzeroProduct, withinProduct}
-use Rattle.rules.specs.Soundness.{DepsLow}
 use Rattle.rules.specs.Record.{layoutIn}
 use Rattle.rules.specs.CountsAndForms.{toDense, denseIfFull}
 use Rattle.rules.specs.ContractLastAxis.{shortened, shortenedDeps, overShorter, contracted, contractLastAxis}
-use Rattle.rules.proofs.Buffers.{length-part}
 use Rattle.rules.proofs.Soundness.{OneKind, is-dense, is-diagonal, is-sparse, one-kind}
 use Rattle.rules.proofs.Extents.{nonzero-take}
 use Rattle.rules.proofs.Contracting.{shortened-length, contracted-dense-axis, contracted-diagonal, contracted-to-dense, contracted-rows, contracted-sound, contract-scalar, contract-given, contracted-low}
 use Rattle.cells.specs.View.{view}
-use Rattle.cells.proofs.View.{view-length, view-take, view-drop}
+use Rattle.cells.proofs.View.{view-take, view-drop}
 use Rattle.tables.specs.Rows.{rowAt, rowsAt}
 use Rattle.tables.proofs.Only.{only-then, only-wider}
 use Rattle.tables.proofs.Tables.{table-length}
 use Rattle.axes.specs.Extents.{Extents}
 use Rattle.records.specs.Sound.{SoundRecord}
-use Rattle.records.proofs.Layouts.{axes, has-states, has-inputs}
 use Rattle.records.proofs.SoundRecords.{lies, layout-sound, layout-shown}
 use Rattle.parts.specs.Parts.{partSize, rowsFrom, statesFrom, layoutAt}
 use Rattle.parts.specs.Answers.{Says}
 use Rattle.moving.specs.Sections.{HeadAsked, HeadMade, TableMade}
-use Rattle.moving.specs.Picking.{picked, DepsPicked}
+use Rattle.moving.specs.Picking.{picked, shorterPlaces, DepsPicked}
+use Rattle.moving.proofs.Shown.{shape-size, rank-shown, dense-shown, kind-shown, deps-low}
 use Rattle.moving.proofs.Sections.{head-stays, table-stays, assembled, says-made, says-refused}
-use Rattle.reshape.specs.Contracting.{shorterPlaces, FrontMade, SumAsked, NoDenseAxis}
+use Rattle.reshape.specs.Contracting.{FrontMade, SumAsked, NoDenseAxis}
 use Rattle.reshape.proofs.Shortening.{rows-shortened, deps-shortened}
 use Rattle.reshape.proofs.Fronts.{head-same, front-made, bare-front}
 
 -- ---- what a record shows of its layout
 
 module _ {h : Head} {s : List ℤ} (r : SoundRecord h s) where
-  shape-size : length (part 3 (h .rank) (view s)) ≡ h .rank
-  shape-size = let b = lies r in length-part 3 (h .rank) (view s) (rw view-length (omega arith))
-
-  pub rank-shown : rank (layoutIn s) ≡ h .rank
-  rank-shown = rw (layout-shown r) shape-size
-
-  pub dense-shown : layoutIn s .dense + h .width ≡ h .rank
-  dense-shown = rw (layout-shown r) (axes (r .readable))
-
-  pub kind-shown : layoutIn s .kind ≡ getD (view s) 0 0
-  kind-shown = rw (layout-shown r) refl
-
-  pub deps-low : DepsLow (layoutIn s)
-  deps-low = rw (layout-shown r) (record { states-low = has-states (r .readable) .low; inputs-low = has-inputs (r .readable) .low })
-
   -- its extents but for the last, as they stand there
   extents-there : take (h .rank - 1) (drop 3 (view s)) ≡ shortened (layoutIn s .shape)
   unfolding part
-  extents-there = rw (layout-shown r, shape-size) (sym (take-take (h .rank - 1) (h .rank) (drop 3 (view s)) (omega arith)))
+  extents-there = rw (layout-shown r, shape-size r) (sym (take-take (h .rank - 1) (h .rank) (drop 3 (view s)) (omega arith)))
 
   row-there : rowAt 3 (h .rank - 1) s ≡ shortened (layoutIn s .shape)
   unfolding part
@@ -174,11 +157,11 @@ module _ {h : Head} {s t : List ℤ} (q : SumAsked h s t) where
       within = rw (row-there (q .sound)) (le-leb (nonzeroProduct (shortened (l .shape))) productLimit (omega (arith, nonzero-take (length (l .shape) - 1) (l .shape), layout-sound (q .sound) .sizes .product-most)));
     }
 
-    module _ {places : List ℕ} (e : places ≡ shorterPlaces (h .rank)) {u : List ℤ}
+    module _ {places : List ℕ} (e : places ≡ shorterPlaces (h .rank - 1) (h .rank)) {u : List ℤ}
         (p : TableMade rowsFrom (h .rank - 1) (sorted (map (picked 0 (take (h .rank - 1) places)) (rowsAt (h .rows .first) (h .width) (h .rows .count) s))) t u) where
       rows-made : TableMade rowsFrom (h .rank - 1) rows t u
       rows-made =
-          let same : map (picked 0 (take (h .rank - 1) (shorterPlaces (h .rank)))) (l .rows) ≡ map shortened (l .rows) =
+          let same : map (picked 0 (take (h .rank - 1) (shorterPlaces (h .rank - 1) (h .rank)))) (l .rows) ≡ map shortened (l .rows) =
           rows-shortened (q .axis) few (λ r m. layout-sound (q .sound) .form .row-lengths r m ∙ omega (arith, rank-shown (q .sound), none-dense n)) in
           let there : map (picked 0 (take (h .rank - 1) places)) (rowsAt (h .rows .first) (h .width) (h .rows .count) s) ≡ map shortened (l .rows) =
           rw (e, ← ap (λ (x : Layout). x .rows) (layout-shown (q .sound))) same in
@@ -264,7 +247,7 @@ pub scalar-says : {h : Head} {s t : List ℤ} → SoundRecord h s → h .rank �
 unfolding numberOf
 scalar-says r e = says-refused ScalarContracted (contract-scalar _ (rank-shown r ∙ e))
 
-module _ {h : Head} {s t u v : List ℤ} (q : SumAsked h s t) (f : FrontMade (contracted (layoutIn s)) t u) {places : List ℕ} (e : places ≡ shorterPlaces (h .rank))
+module _ {h : Head} {s t u v : List ℤ} (q : SumAsked h s t) (f : FrontMade (contracted (layoutIn s)) t u) {places : List ℕ} (e : places ≡ shorterPlaces (h .rank - 1) (h .rank))
     (d : DepsPicked (take (h .rank) places) (h .rank) (layoutIn s) u v) where
   same : Shorter (layoutIn s) (contracted (layoutIn s))
   same = contracted-shorter (layoutIn s)

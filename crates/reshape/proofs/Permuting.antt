@@ -34,7 +34,9 @@ use Rattle.records.proofs.SoundRecords.{lies, layout-sound, layout-shown}
 use Rattle.parts.specs.Parts.{partSize, rowsFrom}
 use Rattle.moving.specs.Sections.{HeadAsked, HeadMade, TableMade}
 use Rattle.moving.specs.Picking.{picked, DepsPicked}
+use Rattle.moving.proofs.Shown.{rank-shown, dense-shown, kind-shown, deps-low}
 use Rattle.moving.proofs.Picking.{picked-length, picked-at}
+use Rattle.moving.proofs.Shortening.{map-alike}
 use Rattle.rules.specs.declared.Refusal.{Refusal}
 use Rattle.rules.specs.declared.Step.{Step}
 use Rattle.rules.specs.Arguments.{upTo}
@@ -44,9 +46,7 @@ use Rattle.lookups.proofs.SoundRecords.{lent-shape}
 use Rattle.parts.specs.Answers.{Says, Loaded}
 use Rattle.moving.proofs.Sections.{head-stays, table-stays, assembled, says-made, says-refused}
 use Rattle.reshape.specs.Permuting.{Moves, Permutes, FrontSays, FrontMoved, MoveAsked, namesAxes, MovesAre, AxesMoved}
-use Rattle.reshape.proofs.Shortening.{map-alike}
 use Rattle.reshape.proofs.Fronts.{head-same, front-made, bare-front}
-use Rattle.reshape.proofs.Contracting.{rank-shown, dense-shown, kind-shown, deps-low}
 
 -- ---- rows and dependencies, moved by their places
 

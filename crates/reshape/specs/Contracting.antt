@@ -1,20 +1,15 @@
 -- What is asked of a layout that is summed over its last axis, and what is made of it.
 use mathlib.Core.Path.{_≡_}
 use mathlib.Core.List.{List}
-use Prim.Native.Nat.{ℕ, _-_, _<_, _≤_}
+use Prim.Native.Nat.{ℕ, _<_, _≤_}
 use lib.IntN.{ℤ}
-use lib.ListN.{length, set}
+use lib.ListN.{length}
 use Rattle.rules.specs.declared.Head.{Head}
-use Rattle.rules.specs.Lists.{below}
 use Rattle.rules.specs.Layout.{Layout, width}
 use Rattle.tables.specs.Tables.{Only}
 use Rattle.records.specs.Sound.{SoundRecord}
 use Rattle.parts.specs.Parts.{partSize, rowsFrom, statesFrom}
 use Rattle.moving.specs.Sections.{HeadIs, TableIs}
-
--- 0, 1, .. but for the last component of an index of so many, and the number behind it
-unfoldable pub shorterPlaces : ℕ → List ℕ
-shorterPlaces rank = set (below 5) (rank - 1) rank
 
 -- kind, D, shape and rows of a layout stand in a part
 pub record FrontIs (l : Layout) (t : List ℤ) : Type 0 where

@@ -1,5 +1,4 @@
 // A layout summed over its last axis. Which arm is taken depends on D first, then on the kind.
-ghost use mathlib.Core.Path.{_≡_};
 ghost use Prim.Native.Nat.{_<_, _≤_};
 ghost use lib.ListN.{length};
 ghost use Rattle.rules.specs.Record.{layoutIn};
@@ -7,20 +6,10 @@ ghost use Rattle.rules.specs.ContractLastAxis.{contracted, contractLastAxis};
 ghost use Rattle.records.specs.Sound.{SoundRecord};
 ghost use Rattle.parts.specs.Parts.{partSize};
 ghost use Rattle.parts.specs.Answers.{Says};
-ghost use Rattle.reshape.specs.Contracting.{FrontMade, SumAsked, NoDenseAxis, shorterPlaces};
+ghost use Rattle.reshape.specs.Contracting.{FrontMade, SumAsked, NoDenseAxis};
 use rules::Head;
 use rules::Refusal;
 use rules::Step;
-
-// The places of the numbers of a dependency that is shortened: its index but for the last component, then its number.
-fn shorter_places(rank: usize) -> [usize; 5]
-    requires { ⌜ (0 < rank) × (rank ≤ 4) ⌝ }
-    ensures { λ r. ⌜ r ≡ shorterPlaces rank ⌝ }
-{
-    let mut places = [0usize, 1, 2, 3, 4];
-    places[rank - 1] = rank;
-    places
-}
 
 // With dense axes: one less, and no rows.
 fn sum_dense_axis(record: &[i32], head: Head, part: &mut [i32])
@@ -61,7 +50,7 @@ fn sum_rows(record: &[i32], head: Head, part: &mut [i32])
     let rank = head.rank - 1;
     let end = head.rank + 2;
     let rows = head.rows;
-    let places = shorter_places(head.rank);
+    let places = moving::shorter_places(rank, head.rank);
     moving::pick_sorted(record, rows, head.width, places, rank, part, parts::ROWS);
     if cells::get(part, parts::ROWS) == axes::product(record, parts::EXTENTS, rank) {
         cells::store(part, parts::ROWS, 0);
@@ -95,6 +84,7 @@ pub fn contract_into(record: &[i32], head: Head, part: &mut [i32]) -> Step
         return Step::Refused(Refusal::ScalarContracted);
     }
     sum_front(record, head, part);
-    moving::pick_deps(record, head, shorter_places(head.rank), head.rank, part);
+    let places = moving::shorter_places(head.rank - 1, head.rank);
+    moving::pick_deps(record, head, places, head.rank, part);
     Step::Done
 }

@@ -149,8 +149,11 @@ module _ {l : Layout} (w : WellFormed l) (k : l .kind ≡ 2) (z : l .dense ≡ 0
   rows-same : (index : List ℕ) → holds (contracted l) index ≡ holds shorter index
   rows-same index =
       rw (contracted-rows l k z)
-      (dense-if-full-holds shorter k refl (ap length (sorted-sorted (map shortened (l .rows))))
-      (sorted-each (each-map (Position (shortened (l .shape))) shortened (λ r p. shortened-position p) row-position)) index)
+      (dense-if-full-holds shorter k (ap length (sorted-sorted (map shortened (l .rows))))
+      (λ r m. omega (arith, shorter-row r m .size)) (λ r m. shorter-row r m .inside) index)
+    where
+      shorter-row : Each (Position (shortened (l .shape))) (sorted (map shortened (l .rows)))
+      shorter-row = sorted-each (each-map (Position (shortened (l .shape))) shortened (λ r p. shortened-position p) row-position)
 
   rows-there : (index : List ℕ) (v : ℕ) → holds l (index ++ (v ∷ [])) ≡ true → holds (contracted l) index ≡ true
   rows-there index v e =

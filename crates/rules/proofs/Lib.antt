@@ -11,10 +11,17 @@
 --     Contracting, Moved, Permuting, Replaced, Ranging,
 --     Gathering, Taking, Axes, Stretching, StretchedAlone, ToRank  which answer an operation gives of a sound layout, by plain cases
 --     Given                                                        that what they give is sound
---     StretchedHolds, Full, ContractedHolds, PermutedHolds         what is held then
+--     StretchedHolds, Full, IntersectHolds, ContractedHolds,
+--     PermutedHolds                                                what is held then
+--     Giving, Unchanged, Folding, BroadcastEnds                    a broadcast: what is stretched, folded in order, and its end
+--     Calls                                                        what calls answer of sound records
+--     Piled, PiledPairs, Summing, ExchangeMade, ExchangeKeeps,
+--     Piles                                                        the pile: any exchanges keep its counts
+--     Slots, PileRecords, RecordPiles                              the same of records in the slots of a slice
+--     PileByHand                                                   a pile exchanged by hand
 --     Determined                                                   two outcomes that a contract allows are equal
 --     WorkedByHand, Examples                                       the table, and examples of every operation
---     Refusing, RefusedWith, Never14                               which numbers are given, and that 14 never is
+--     Refusing, RefusedWith, BroadcastRefused, Never14             which numbers are given, and that 14 never is
 pub mod Order
 pub mod Same
 pub mod Sets
@@ -65,11 +72,28 @@ pub mod ToRank
 pub mod Given
 pub mod StretchedHolds
 pub mod Full
+pub mod IntersectHolds
+pub mod Calls
+pub mod Piled
+pub mod PiledPairs
+pub mod Summing
+pub mod ExchangeMade
+pub mod ExchangeKeeps
+pub mod Piles
+pub mod Slots
+pub mod PileRecords
+pub mod RecordPiles
+pub mod PileByHand
 pub mod ContractedHolds
 pub mod PermutedHolds
+pub mod Giving
+pub mod Unchanged
+pub mod Folding
+pub mod BroadcastEnds
 pub mod Determined
 pub mod WorkedByHand
 pub mod Refusing
 pub mod RefusedWith
+pub mod BroadcastRefused
 pub mod Never14
 mod Examples

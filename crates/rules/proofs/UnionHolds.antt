@@ -10,12 +10,12 @@ use lib.Dec.{eqb}
 use lib.ListN.{take}
 use Rattle.rules.specs.RowsInOrder.{merge, among}
 use Rattle.rules.specs.Refusals.{given}
-use Rattle.rules.specs.Layout.{Layout, width, isDense, isDiagonal}
+use Rattle.rules.specs.Layout.{Layout, width, isDense, isDiagonal, withDeps}
 use Rattle.rules.specs.Soundness.{WellFormed}
 use Rattle.rules.specs.CountsAndForms.{toDense}
 use Rattle.rules.specs.Removal.{listsRow}
 use Rattle.rules.specs.Holding.{isPosition, holds}
-use Rattle.rules.specs.Pairs.{withMerged, alikeDiagonals, lowered, lowerD, barsExpansion}
+use Rattle.rules.specs.Pairs.{alikeDiagonals, lowered, lowerD, barsExpansion}
 use Rattle.rules.specs.Union.{joined, union}
 use Rattle.rules.proofs.Same.{both-true, neither, decided}
 use Rattle.rules.proofs.Sets.{among-in, in-among}
@@ -66,6 +66,11 @@ among-merge r x y = decided (among r (merge x y)) (among r x || among r y) there
 
 -- ---- by what a union is made of
 
+-- other dependencies change nothing in what is held
+pub deps-hold : (states inputs : List (List ℕ)) (l : Layout) (index : List ℕ) → holds (withDeps states inputs l) index ≡ holds l index
+unfolding holds
+deps-hold states inputs l index = refl
+
 -- rows of one shape and D, joined
 joined-holds : (x y : Layout) → x .kind ≡ 2 → y .kind ≡ 2 → x .shape ≡ y .shape → x .dense ≡ y .dense →
     (index : List ℕ) → holds (joined x y) index ≡ holds x index || holds y index
@@ -93,12 +98,12 @@ module _ (a b : Layout) (e : a .shape ≡ b .shape) (index : List ℕ) where
           (either-true (holds a index) (holds b index) h)
 
   -- two diagonals with equal D hold the same
-  diagonals-hold : alikeDiagonals a b ≡ true → holds a index ≡ holds a index || holds b index
+  pub diagonals-hold : alikeDiagonals a b ≡ true → holds a index ≡ holds b index
   diagonals-hold f =
       let h = both-true (isDiagonal a && isDiagonal b) (eqb (a .dense) (b .dense)) f in
       let k = both-true (isDiagonal a) (isDiagonal b) (h .0) in
       let d : a .dense ≡ b .dense = eqb-true (a .dense) (b .dense) (h .1) in
-      either-same (holds-diagonal a index (eqb-true (a .kind) 1 (k .0)) ∙ (rw (e, d)) ∙ sym (holds-diagonal b index (eqb-true (b .kind) 1 (k .1))))
+      holds-diagonal a index (eqb-true (a .kind) 1 (k .0)) ∙ (rw (e, d)) ∙ sym (holds-diagonal b index (eqb-true (b .kind) 1 (k .1)))
 
   module _ (p : WellFormed a) (q : WellFormed b) where
     -- of rows: each is lowered to the smaller D, and holds what it did
@@ -116,18 +121,13 @@ module _ (a b : Layout) (e : a .shape ≡ b .shape) (index : List ℕ) where
 
     united-holds : {l : Layout} → United a b l → holds l index ≡ holds a index || holds b index
     united-holds (of-dense f) = dense-holds f
-    united-holds (of-diagonals f) = diagonals-hold f
+    united-holds (of-diagonals f) = either-same (diagonals-hold f)
     united-holds (of-rows f g h) = rows-hold f g h
 
 -- ---- the union
-
--- other dependencies change nothing in what is held
-merged-holds : (a b l : Layout) (index : List ℕ) → holds (withMerged a b l) index ≡ holds l index
-unfolding holds
-merged-holds a b l index = refl
 
 -- what a union of two well-formed layouts holds: what either does
 pub union-holds : {a b l : Layout} → WellFormed a → WellFormed b → union a b ≡ given l → (index : List ℕ) → holds l index ≡ holds a index || holds b index
 union-holds {a} {b} {l} p q u index =
     let g = union-gives a b u in
-    ap (λ (x : Layout). holds x index) (sym (made-sound (g .was-made) .0)) ∙ merged-holds a b (g .whole) index ∙ united-holds a b (g .shapes) index p q (g .united)
+    ap (λ (x : Layout). holds x index) (sym (made-sound (g .was-made) .0)) ∙ deps-hold (merge (a .states) (b .states)) (merge (a .inputs) (b .inputs)) (g .whole) index ∙ united-holds a b (g .shapes) index p q (g .united)

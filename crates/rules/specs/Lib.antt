@@ -20,6 +20,7 @@ pub mod Holding
 pub mod Pairs
 pub mod Union
 pub mod Intersect
+pub mod Pile
 pub mod ContractLastAxis
 pub mod Permute
 pub mod Broadcast

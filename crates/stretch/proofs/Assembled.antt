@@ -9,17 +9,15 @@ use native.Mathlib.Omega.{arith}
 use borrow.Author.Tests.{eqb-true, leb-true, le-leb, not-true, not-false}
 use lib.Dec.{eqb}
 use lib.IntN.{ℤ}
-use lib.ListN.{length, getD, take, drop}
+use lib.ListN.{length, getD, take, drop, length-take}
 use Rattle.rules.specs.declared.Head.{Head}
-use Rattle.rules.specs.declared.Refusal.{Refusal}
 use Rattle.rules.specs.declared.Refusal.the-variants.{ShapesDisagree, DenseAxes, MadeUnsound, MadeTooLarge}
 use Rattle.rules.specs.declared.Step.{Step}
 use Rattle.rules.specs.declared.Step.the-variants.{Done, Refused}
 use Rattle.rules.specs.Limits.{productLimit}
 use Rattle.rules.specs.Lists.{implies, all, fitTo}
-use Rattle.rules.specs.Refusals.{Verdict, given, refused, numberOf}
+use Rattle.rules.specs.Refusals.{Verdict, given, numberOf}
 use Rattle.rules.specs.Layout.{Layout, rank, width, few, isDiagonal, withinProduct, nonzeroProduct, alike}
-use Rattle.rules.specs.Soundness.{DepsLow}
 use Rattle.rules.specs.Record.{layoutIn}
 use Rattle.rules.specs.Stretching.{sharedAxesFit, stretched, broadcastToShape, broadcastToRank}
 use Rattle.rules.proofs.Same.{both-true}
@@ -29,26 +27,21 @@ use Rattle.rules.proofs.StretchedAlone.{stretch-disagrees, stretch-bars, stretc
 use Rattle.rules.proofs.ToRank.{fit-product, rank-disagrees, rank-stretches}
 use Rattle.rules.proofs.Given.{stretch-sound, stretch-low}
 use Rattle.cells.specs.View.{view}
+use Rattle.cells.proofs.View.{view-part}
 use Rattle.tables.specs.Rows.{rowAt}
-use Rattle.tables.proofs.Rows.{row-length}
+use Rattle.tables.proofs.Rows.{row-length, lent-row}
 use Rattle.tables.proofs.Only.{view-outside, row-outside}
 use Rattle.axes.specs.Extents.{Extents}
 use Rattle.records.specs.Sound.{SoundRecord}
-use Rattle.records.proofs.Layouts.{axes, has-states, has-inputs}
 use Rattle.records.proofs.SoundRecords.{lies, layout-sound, layout-shown}
 use Rattle.parts.specs.Parts.{partSize, kindAt, denseAt, rankAt, layoutAt}
 use Rattle.parts.specs.Answers.{Says}
+use Rattle.moving.specs.Sections.{HeadAsked, HeadMade}
+use Rattle.moving.proofs.Shown.{rank-shown, dense-shown, kind-shown, deps-low}
+use Rattle.moving.proofs.Sections.{says-refused}
 use Rattle.stretch.specs.Spread.{extentsIn}
-use Rattle.stretch.specs.Layouts.{StretchAsked, FillAsked, HeadAsked, HeadMade, TablesMade}
+use Rattle.stretch.specs.Layouts.{StretchAsked, FillAsked, TablesMade}
 use Rattle.stretch.proofs.Fitting.{front-row}
-
--- a refusal is no answer
-never-done : {x : Refusal} → Refused x ≡ Done → ⊥
-never-done e = let z : _≡_ {A = ℕ} 0 1 = cc in omega arith
-
--- a step that is refused says so
-says-refused : (r : Refusal) {v : Verdict Layout} (s : List ℤ) → v ≡ refused (numberOf r) → Says v 0 s (Refused r)
-says-refused r s e = record { is = sym e; holds = λ d. absurd (never-done d) }
 
 -- what does not both hold and fail is implied
 not-both : (p q : Bool) → p && not q ≡ false → implies p q ≡ true
@@ -62,26 +55,14 @@ module _ {h : Head} {src : List ℤ} (r : SoundRecord h src) where
   shape-is : layoutIn src .shape ≡ extentsIn (h .rank) src
   shape-is = ap (λ (x : Layout). x .shape) (layout-shown r)
 
-  kind-is : layoutIn src .kind ≡ getD (view src) 0 0
-  kind-is = ap (λ (x : Layout). x .kind) (layout-shown r)
-
-  dense-is : layoutIn src .dense ≡ getD (view src) 1 0
-  dense-is = ap (λ (x : Layout). x .dense) (layout-shown r)
-
   extents-in : 3 + h .rank ≤ length src
   extents-in = let b = lies r in omega (arith, b .shape-in, b .end-in)
 
-  rank-is : rank (layoutIn src) ≡ h .rank
-  rank-is = ap length shape-is ∙ row-length 3 (h .rank) src extents-in
-
   sum-is : layoutIn src .dense + h .width ≡ rank (layoutIn src)
-  sum-is = omega (arith, dense-is, rank-is, axes (r .readable))
+  sum-is = dense-shown r ∙ sym (rank-shown r)
 
   width-is : width (layoutIn src) ≡ h .width
   width-is = omega (arith, sum-is)
-
-  low : DepsLow (layoutIn src)
-  low = rw (layout-shown r) (record { states-low = has-states (r .readable) .low; inputs-low = has-inputs (r .readable) .low })
 
   -- it is not empty
   pub some : 0 < length src
@@ -110,7 +91,7 @@ module _ {h : Head} {src : List ℤ} {at n : ℕ} {shape : List ℤ} (a : Stretc
     -- shared axes do not fit: 6
     pub disagrees : not r ≡ true → (s : List ℤ) → Says answer 0 s (Refused ShapesDisagree)
     unfolding numberOf
-    disagrees f s = says-refused ShapesDisagree s (stretch-disagrees (layoutIn src) new (told ∙ not-true r f))
+    disagrees f s = says-refused ShapesDisagree (stretch-disagrees (layoutIn src) new (told ∙ not-true r f))
 
     module _ (f : not r ≡ false) where
       fits : sharedAxesFit (layoutIn src .shape) new ≡ true
@@ -119,7 +100,7 @@ module _ {h : Head} {src : List ℤ} {at n : ℕ} {shape : List ℤ} (a : Stretc
       -- D would fall below 0: 11
       pub bars : n < h .width → (s : List ℤ) → Says answer 0 s (Refused DenseAxes)
       unfolding numberOf
-      bars g s = says-refused DenseAxes s (stretch-bars (layoutIn src) new fits (omega (arith, new-length, sum-is (a .source))))
+      bars g s = says-refused DenseAxes (stretch-bars (layoutIn src) new fits (omega (arith, new-length, sum-is (a .source))))
 
       module _ (wide : h .width ≤ n) where
         stretches : Stretches (layoutIn src) new
@@ -137,13 +118,27 @@ module _ {h : Head} {src : List ℤ} {at n : ℕ} {shape : List ℤ} (a : Stretc
           unfolding numberOf
           breaks g s =
               let k = both-true (eqb (getD (view src) 0 0) 1) (not (alike (rowAt at (h .width) shape))) (sym is ∙ g) in
-              says-refused MadeUnsound s
-              (stretch-breaks stretches (layout-sound (a .source) .form) (kind-is (a .source) ∙ eqb-true (getD (view src) 0 0) 1 (k .0)) (rw front (not-true (alike (rowAt at (h .width) shape)) (k .1))))
+              says-refused MadeUnsound
+              (stretch-breaks stretches (layout-sound (a .source) .form) (kind-shown (a .source) ∙ eqb-true (getD (view src) 0 0) 1 (k .0)) (rw front (not-true (alike (rowAt at (h .width) shape)) (k .1))))
 
-          pub ask-head : {s : List ℤ} → partSize ≤ length s → HeadAsked (h .width) src at n shape s
-          ask-head room = record { some = some (a .source); new-in = a .shapes .new-in; new-few = a .shapes .new-few; wide = wide; room = room }
+          -- the kind as it was read
+          module _ {kind : ℕ} (kind-is : kind ≡ getD (view src) 0 0) where
+            kind-most : kind ≤ 2
+            kind-most = rw (kind-is, ← kind-shown (a .source)) (layout-sound (a .source) .form .kind-most)
 
-          module _ (g : b ≡ false) {s₀ s : List ℤ} (room : partSize ≤ length s₀) (m : HeadMade (getD (view src) 0 0) (n - h .width) new s₀ s) where
+            pub ask-head : {s : List ℤ} → partSize ≤ length s → HeadAsked kind (n - h .width) (take (at + n - at) (drop at shape)) s
+            ask-head room = record {
+              kind-most = kind-most;
+              dense-most = omega (arith, a .shapes .new-few);
+              rank-most = simp length-take (omega (arith, a .shapes .new-few));
+              room = room;
+            }
+
+          module _ (g : b ≡ false) {kind : ℕ} (kind-is : kind ≡ getD (view src) 0 0) {s₀ s : List ℤ} (room : partSize ≤ length s₀)
+              (written : HeadMade kind (n - h .width) (view (take (at + n - at) (drop at shape))) s₀ s) where
+            m : HeadMade (getD (view src) 0 0) (n - h .width) new s₀ s
+            m = rw (kind-is, lent-row at n shape, view-part at n shape) at written
+
             pub ask-fill : FillAsked h src at n shape s
             ask-fill = record {
               asked = a;
@@ -153,7 +148,7 @@ module _ {h : Head} {src : List ℤ} {at n : ℕ} {shape : List ℤ} (a : Stretc
             }
 
             straight : implies (isDiagonal (layoutIn src)) (alike (take (width (layoutIn src)) new)) ≡ true
-            straight = rw (front, kind-is (a .source)) (not-both (eqb (getD (view src) 0 0) 1) (alike (rowAt at (h .width) shape)) (sym is ∙ g))
+            straight = rw (front, kind-shown (a .source)) (not-both (eqb (getD (view src) 0 0) 1) (alike (rowAt at (h .width) shape)) (sym is ∙ g))
 
             answer-is : answer ≡ fewOr (stretched (layoutIn src) new)
             answer-is = stretch-given stretches (layout-sound (a .source)) (rw new-length (a .shapes .new-few)) small straight
@@ -164,16 +159,16 @@ module _ {h : Head} {src : List ℤ} {at n : ℕ} {shape : List ℤ} (a : Stretc
               front-stays k i = view-outside (p .only) k (inl i)
 
               kind-there : kindAt 0 t ≡ layoutIn src .kind
-              kind-there = front-stays 0 (omega arith) ∙ m .kind-is ∙ sym (kind-is (a .source))
+              kind-there = front-stays 0 (omega arith) ∙ m .head .kind-is ∙ sym (kind-shown (a .source))
 
               dense-there : denseAt 0 t ≡ layoutIn src .dense + length new - rank (layoutIn src)
-              dense-there = front-stays 1 (omega arith) ∙ m .dense-is ∙ omega (arith, new-length, sum-is (a .source))
+              dense-there = front-stays 1 (omega arith) ∙ m .head .dense-is ∙ omega (arith, new-length, sum-is (a .source))
 
               rank-there : rankAt 0 t ≡ length new
-              rank-there = front-stays 2 (omega arith) ∙ m .rank-is
+              rank-there = front-stays 2 (omega arith) ∙ m .head .rank-is
 
               shape-there : rowAt 3 (length new) t ≡ new
-              shape-there = row-outside (p .only) 3 (length new) (inl (omega (arith, new-length, a .shapes .new-few))) ∙ m .shape-is
+              shape-there = row-outside (p .only) 3 (length new) (inl (omega (arith, new-length, a .shapes .new-few))) ∙ m .head .shape-is
 
               layout-there : z ≡ true → layoutAt 0 t ≡ stretched (layoutIn src) new
               unfolding layoutAt stretched
@@ -192,14 +187,14 @@ module _ {h : Head} {src : List ℤ} {at n : ℕ} {shape : List ℤ} (a : Stretc
                     holds = λ _. record {
                       inside = rw (p .only .size, m .only .size) room;
                       sound = stretch-sound (layoutIn src) new is;
-                      low = stretch-low (layoutIn src) new is (low (a .source));
+                      low = stretch-low (layoutIn src) new is (deps-low (a .source));
                     };
                   }
 
               -- or too large: 13
               pub too-large : z ≡ false → Says answer 0 t (Refused MadeTooLarge)
               unfolding numberOf stretched
-              too-large d = says-refused MadeTooLarge t (answer-is ∙ rw (← p .verdict, d))
+              too-large d = says-refused MadeTooLarge (answer-is ∙ rw (← p .verdict, d))
 
 -- ---- `stretch_to_rank`
 
@@ -214,7 +209,7 @@ module _ {h : Head} {src : List ℤ} {n : ℕ} (q : SoundRecord h src × (n ≤ 
     -- a cut axis is not 1: 6
     pub cut-disagrees : not b ≡ true → (s : List ℤ) → Says (broadcastToRank (layoutIn src) n) 0 s (Refused ShapesDisagree)
     unfolding numberOf
-    cut-disagrees f s = says-refused ShapesDisagree s (rank-disagrees (layoutIn src) n (cut-told ∙ not-true b f))
+    cut-disagrees f s = says-refused ShapesDisagree (rank-disagrees (layoutIn src) n (cut-told ∙ not-true b f))
 
     module _ (f : not b ≡ false) (extents : List ℤ) (long : length extents ≡ 4) (is : rowAt 0 n extents ≡ fitTo n 1 (extentsIn (h .rank) src)) where
       pub ask-stretch : StretchAsked h src 0 n extents

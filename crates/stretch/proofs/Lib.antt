@@ -8,6 +8,6 @@ pub mod Depending
 pub mod Plus
 pub mod Moves
 pub mod ListedRows
-pub mod Heading
+pub mod Bending
 pub mod Filling
 pub mod Assembled

@@ -1,19 +1,17 @@
--- A record stretched into a part: what is asked, its head, and its tables.
+-- A record stretched into a part: what is asked, and its tables.
 use mathlib.Core.Path.{_≡_}
 use mathlib.Core.Bool.{Bool, true, _&&_}
 use mathlib.Core.List.{List}
-use Prim.Native.Nat.{ℕ, _+_, _<_, _≤_}
+use Prim.Native.Nat.{ℕ, _+_, _≤_}
 use lib.IntN.{ℤ}
 use lib.ListN.{length}
 use Rattle.rules.specs.declared.Head.{Head}
-use Rattle.rules.specs.Buffers.{part}
 use Rattle.rules.specs.Layout.{Layout, width, few}
 use Rattle.rules.specs.Stretching.{stretchRows, stretchDeps, sharedAxesFit}
-use Rattle.cells.specs.View.{view}
 use Rattle.tables.specs.Rows.{rowAt}
 use Rattle.tables.specs.Tables.{tableAt, Only}
 use Rattle.records.specs.Sound.{SoundRecord}
-use Rattle.parts.specs.Parts.{partSize, rowsFrom, statesFrom, inputsFrom, kindAt, denseAt, rankAt}
+use Rattle.parts.specs.Parts.{partSize, rowsFrom, statesFrom, inputsFrom}
 use Rattle.stretch.specs.Spread.{Shapes}
 
 -- a sound record, and a new shape
@@ -27,22 +25,6 @@ pub record FillAsked (h : Head) (from : List ℤ) (at rank : ℕ) (shape s : Lis
   pub fits : sharedAxesFit (rowAt 3 (h .rank) from) (rowAt at rank shape) ≡ true
   pub wide : h .width ≤ rank
   pub room : partSize ≤ length s
-
--- a record, a width, a shape that is wide enough, and room for a head
-pub record HeadAsked (w : ℕ) (from : List ℤ) (at rank : ℕ) (shape s : List ℤ) : Type 0 where
-  pub some : 0 < length from
-  pub new-in : at + rank ≤ length shape
-  pub new-few : rank ≤ 4
-  pub wide : w ≤ rank
-  pub room : partSize ≤ length s
-
--- kind, D, rank and extents stand in the part
-pub record HeadMade (kind dense : ℕ) (new : List ℕ) (s t : List ℤ) : Type 0 where
-  pub kind-is : kindAt 0 t ≡ kind
-  pub dense-is : denseAt 0 t ≡ dense
-  pub rank-is : rankAt 0 t ≡ length new
-  pub shape-is : part 3 (length new) (view t) ≡ new
-  pub only : Only 0 rowsFrom s t
 
 -- the tables of a layout stretched to a shape stand in the part, if none is too long
 pub record TablesMade (l : Layout) (new : List ℕ) (s t : List ℤ) (r : Bool) : Type 0 where

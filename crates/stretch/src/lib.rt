@@ -16,7 +16,7 @@ ghost use Rattle.tables.specs.Rows.{rowAt};
 ghost use Rattle.records.specs.Sound.{SoundRecord};
 ghost use Rattle.parts.specs.Parts.{partSize};
 ghost use Rattle.parts.specs.Answers.{Says};
-ghost use Rattle.stretch.specs.Layouts.{StretchAsked, FillAsked, HeadAsked, HeadMade, TablesMade};
+ghost use Rattle.stretch.specs.Layouts.{StretchAsked, FillAsked, TablesMade};
 use deps::stretch_deps;
 use rows::stretch_rows;
 use rules::Head;
@@ -26,18 +26,6 @@ use spread::cut_fit;
 use spread::fitted_extents;
 use spread::shared_fit;
 use spread::spread_extents;
-
-// The head of the part: the kind stays, D grows or shrinks with the rank, and the extents are the new ones.
-fn write_head(from: &[i32], width: usize, shape: &[i32], at: usize, rank: usize, part: &mut [i32])
-    requires { ⌜ HeadAsked width (now from) at rank (now shape) (now part) ⌝ }
-    ensures { λ _. ⌜ HeadMade (getD (view (now (from .entry))) 0 0) (rank - width) (rowAt at rank (now (shape .entry))) (now (part .entry)) (now (part .exit)) ⌝ }
-{
-    let end = at + rank;
-    cells::copy_at(part, parts::KIND, from, 0);
-    cells::store(part, parts::DENSE, rank - width);
-    cells::store(part, parts::RANK, rank);
-    cells::copy_into(&shape[at..end], part, parts::EXTENTS);
-}
 
 // The rows and both lists of dependencies go into the part; false where one of them is too long.
 fn fill(from: &[i32], head: Head, shape: &[i32], at: usize, rank: usize, part: &mut [i32]) -> bool
@@ -111,7 +99,9 @@ pub fn stretch_into(
     if bends(from, head.width, shape, at) {
         return Step::Refused(Refusal::MadeUnsound);
     }
-    write_head(from, head.width, shape, at, rank, part);
+    let kind = cells::get(from, parts::KIND);
+    let end = at + rank;
+    moving::write_head(part, kind, rank - head.width, &shape[at..end]);
     if fill(from, head, shape, at, rank, part) {
         return Step::Done;
     }

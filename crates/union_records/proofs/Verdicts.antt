@@ -2,13 +2,12 @@
 use mathlib.Core.Path.{_≡_, refl, sym, ap, _∙_}
 use mathlib.Core.Bool.{Bool, true, false, not, _&&_, _||_}
 use mathlib.Core.List.{List, [], _∷_}
-use Prim.Native.Nat.{ℕ, _-_, _^_, _<_, _≤_}
+use Prim.Native.Nat.{ℕ, _-_, _<_, _≤_}
 use native.Mathlib.Omega.{arith}
 use borrow.Author.Tests.{lt-ltb, le-ltb}
-use lib.IntN.{ℤ, pos}
+use lib.IntN.{ℤ}
 use lib.ListN.{length, take, drop, length-drop}
 use lib.Seq.{take-at}
-use lib.Signed.{mag}
 use Rattle.rules.specs.declared.Refusal.{Refusal}
 use Rattle.rules.specs.declared.Written.{Written}
 use Rattle.rules.specs.declared.Written.the-variants.{Numbers, Refused}
@@ -24,19 +23,10 @@ use Rattle.rules.specs.Endings.{resultAfter, writtenSays, Ends}
 use Rattle.rules.specs.Union.{union, unionCall}
 use Rattle.rules.proofs.Encoded.{encode-short, layout-alone, sound-alone}
 use Rattle.rules.proofs.Unions.{never, union-sound}
-use Rattle.cells.proofs.Signed.{held, back}
 use Rattle.records.proofs.EndToEnd.{to-end}
 use Rattle.text.specs.Read.{readText}
-use Rattle.text.specs.Written.{lineText}
-use Rattle.union_records.specs.Lines.{layoutText, refusedText, verdictText, unionOf, readingText, unionText}
-
--- ---- a refusal
-
--- its number is written as it is held in a slice
-pub refused-line : (x : Refusal) (z : ℤ) → z ≡ pos (numberOf x) → mag z < 2 ^ 31 →
-    114 ∷ 101 ∷ 102 ∷ 117 ∷ 115 ∷ 101 ∷ 100 ∷ 32 ∷ lineText (held z ∷ []) ≡ refusedText (numberOf x)
-unfolding refusedText
-refused-line x z e h = rw (back z h, e)
+use Rattle.record_text.specs.Lines.{layoutText, refusedText, verdictText}
+use Rattle.union_records.specs.Unions.{unionOf, readingText, unionText}
 
 -- ---- a text
 

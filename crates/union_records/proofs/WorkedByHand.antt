@@ -12,7 +12,8 @@ use Rattle.rules.specs.Pairs.{lowered}
 use Rattle.rules.specs.Union.{unionOfRows, union, unionCall}
 use Rattle.text.specs.Read.{valueFrom, wordOf, readFrom}
 use Rattle.text.specs.Written.{digitsIn, numberText, restText, lineText}
-use Rattle.union_records.specs.Lines.{layoutText, refusedText, unionOf, unionText}
+use Rattle.record_text.specs.Lines.{layoutText, refusedText}
+use Rattle.union_records.specs.Unions.{unionOf, unionText}
 
 pub record Table : Type 0 where
   -- a sparse record with a dense axis and one without: their union

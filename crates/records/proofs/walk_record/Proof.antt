@@ -5,8 +5,8 @@ use Rattle.records.proofs.Walks.{laws, count-inside, broken-inputs, wal
 use Rattle.records.proofs.walk_record.Statement.{statement}
 use Rattle.records.proofs.walk_record.Tie as tie
 
-section-at-requires : tie.Need-section-at-requires
-section-at-requires c κs = search needs
+section-behind-requires : tie.Need-section-behind-requires
+section-behind-requires c κs = search needs
 
 enum-known-extents : tie.Need-enum-known-extents
 enum-known-extents c = search needs
@@ -18,10 +18,10 @@ returns : tie.Need-returns
 returns c = search (needs, laws)
 
 shared-slice-copy-out-kind : tie.Need-shared-slice-copy-out-kind
-shared-slice-copy-out-kind c = omega (arith, count-inside _ _ _ (c .before .before .before .section-at .ensures .1) (c .before .extents .given .1))
+shared-slice-copy-out-kind c = omega (arith, count-inside _ _ _ (c .before .before .before .section-behind .ensures .1) (c .before .extents .given .1))
 
 shared-slice-copy-out-dense : tie.Need-shared-slice-copy-out-dense
-shared-slice-copy-out-dense c = omega (arith, count-inside _ _ _ (c .before .before .before .before .section-at .ensures .1) (c .before .before .extents .given .1))
+shared-slice-copy-out-dense c = omega (arith, count-inside _ _ _ (c .before .before .before .before .section-behind .ensures .1) (c .before .before .extents .given .1))
 
 less-by-requires : tie.Need-less-by-requires
 less-by-requires c κs = search (needs, laws)
@@ -35,8 +35,8 @@ enum-told-2 c = search needs
 returns-2 : tie.Need-returns-2
 returns-2 c = search (needs, laws)
 
-section-at-requires-2 : tie.Need-section-at-requires-2
-section-at-requires-2 c κs = search (needs, laws)
+section-behind-requires-2 : tie.Need-section-behind-requires-2
+section-behind-requires-2 c κs = search (needs, laws)
 
 enum-known-rows : tie.Need-enum-known-rows
 enum-known-rows c = search needs
@@ -47,11 +47,11 @@ enum-told-3 c = search needs
 returns-3 : tie.Need-returns-3
 returns-3 c = search (needs, laws)
 
-add-section-at : tie.Need-add-section-at
-add-section-at c = search (needs, laws)
+add-section-behind : tie.Need-add-section-behind
+add-section-behind c = search (needs, laws)
 
-section-at-requires-3 : tie.Need-section-at-requires-3
-section-at-requires-3 c κs = search (needs, laws)
+section-behind-requires-3 : tie.Need-section-behind-requires-3
+section-behind-requires-3 c κs = search (needs, laws)
 
 enum-known-states : tie.Need-enum-known-states
 enum-known-states c = search needs
@@ -62,11 +62,11 @@ enum-told-4 c = search needs
 returns-4 : tie.Need-returns-4
 returns-4 c = search (needs, laws)
 
-add-section-at-2 : tie.Need-add-section-at-2
-add-section-at-2 c = search (needs, laws)
+add-section-behind-2 : tie.Need-add-section-behind-2
+add-section-behind-2 c = search (needs, laws)
 
-section-at-requires-4 : tie.Need-section-at-requires-4
-section-at-requires-4 c κs = search (needs, laws)
+section-behind-requires-4 : tie.Need-section-behind-requires-4
+section-behind-requires-4 c κs = search (needs, laws)
 
 enum-known-inputs : tie.Need-enum-known-inputs
 enum-known-inputs c = search needs
@@ -84,10 +84,10 @@ returns-5 c =
     let width = rows-read .before .before in
     let less = width .before .before in
     let extents = less .before .before .before .before in
-    broken-inputs _ (extents .before .before .section-at .ensures .0) (extents .extents .given .1) (less .before .dense .given) (less .less-by .ensures .0)
-    (width .width .given .1) (rows-read .section-at2 .ensures .0)
-    (rows .rows .given .1) (states-read .section-at3 .ensures .0)
-    (states .states .given .1) (inputs .section-at4 .ensures .0) (c .enum-told5 .given .1)
+    broken-inputs _ (extents .before .before .section-behind .ensures .0) (extents .extents .given .1) (less .before .dense .given) (less .less-by .ensures .0)
+    (width .width .given .1) (rows-read .section-behind2 .ensures .0)
+    (rows .rows .given .1) (states-read .section-behind3 .ensures .0)
+    (states .states .given .1) (inputs .section-behind4 .ensures .0) (c .enum-told5 .given .1)
 
 returns-6 : tie.Need-returns-6
 returns-6 c =
@@ -99,16 +99,16 @@ returns-6 c =
     let width = rows-read .before .before in
     let less = width .before .before in
     let extents = less .before .before .before .before in
-    walked _ (extents .before .before .section-at .ensures .0) (extents .extents .given .1) (less .before .dense .given) (less .less-by .ensures .0)
-    (width .width .given .1) (rows-read .section-at2 .ensures .0)
-    (rows .rows .given .1) (states-read .section-at3 .ensures .0)
-    (states .states .given .1) (inputs .section-at4 .ensures .0) (c .before .inputs .given .1) (less .before .before .kind .given)
+    walked _ (extents .before .before .section-behind .ensures .0) (extents .extents .given .1) (less .before .dense .given) (less .less-by .ensures .0)
+    (width .width .given .1) (rows-read .section-behind2 .ensures .0)
+    (rows .rows .given .1) (states-read .section-behind3 .ensures .0)
+    (states .states .given .1) (inputs .section-behind4 .ensures .0) (c .before .inputs .given .1) (less .before .before .kind .given)
 
 pub walk-record-spec : {M : Type 1} → statement M
 walk-record-spec =
     tie.close
     (tie.spec
-    section-at-requires
+    section-behind-requires
     enum-known-extents
     enum-told
     returns
@@ -118,17 +118,17 @@ walk-record-spec =
     enum-known-width
     enum-told-2
     returns-2
-    section-at-requires-2
+    section-behind-requires-2
     enum-known-rows
     enum-told-3
     returns-3
-    add-section-at
-    section-at-requires-3
+    add-section-behind
+    section-behind-requires-3
     enum-known-states
     enum-told-4
     returns-4
-    add-section-at-2
-    section-at-requires-4
+    add-section-behind-2
+    section-behind-requires-4
     enum-known-inputs
     enum-told-5
     returns-5

@@ -6,6 +6,7 @@ use borrow.Author.Needs.{needs}
 use denote.Ref.{now}
 use lib.ListN.{length, length-take}
 use Rattle.rules.specs.Refusals.{given, lowest}
+use Rattle.rules.specs.Record.{layoutIn}
 use Rattle.rules.specs.Arguments.{overRecord}
 use Rattle.rules.specs.Permute.{permute as permuteRule, permuteCall}
 use Rattle.rules.proofs.RefusedWith.{permute-refusing}
@@ -31,7 +32,7 @@ kept : (c : tie.After-enum-told) → SizesKept (overRecord (now (startOf c .args
 kept c =
     let sizes = c .before .before in
     let a = startOf c .args in
-    record-kept (λ l. permuteRule l (now (a .permutation))) [] (now (a .«record»)) (now (a .result)) (now (a .work)) (sizes .before .over-record .ensures) (sizes .judge-sizes .ensures) (c .enum-told .given .1)
+    record-kept (overRecord (now (a .«record»))) [] (permuteRule (layoutIn (now (a .«record»))) (now (a .permutation))) (now (a .«record»)) (now (a .result)) (now (a .work)) (sizes .before .over-record .ensures) (sizes .judge-sizes .ensures) (c .enum-told .given .1)
 
 -- where the record is read: the begin, the sizes and its head
 abbrev start : tie.After-known-told2 → tie.Start
@@ -60,7 +61,7 @@ returns c =
     let judged = c .before .before .before in
     let over = judged .before in
     let a = over .before .args in
-    record-early (λ l. permuteRule l (now (a .permutation))) [] (now (a .«record»)) (now (a .result)) (now (a .work)) (over .over-record .ensures) (judged .judge-sizes .ensures) (c .before .why .given .1)
+    record-early (overRecord (now (a .«record»))) [] (permuteRule (layoutIn (now (a .«record»))) (now (a .permutation))) (now (a .«record»)) (now (a .result)) (now (a .work)) (over .over-record .ensures) (judged .judge-sizes .ensures) (c .before .why .given .1)
 
 enum-told : tie.Need-enum-told
 enum-told c = search needs
@@ -87,7 +88,7 @@ returns-2 c =
     let told = refused .before .before in
     let walked = told .before .before in
     let a = startOf (walked .before) .args in
-    record-unsound (λ l. permuteRule l (now (a .permutation))) [] (now (a .«record»)) (now (a .result)) (now (a .work)) (kept (walked .before)) tt (walked .sound-head .ensures .0) (told .enum-told2 .given .1) (refused .refuse .ensures)
+    record-unsound (overRecord (now (a .«record»))) [] (permuteRule (layoutIn (now (a .«record»))) (now (a .permutation))) (now (a .«record»)) (now (a .result)) (now (a .work)) (kept (walked .before)) tt (walked .sound-head .ensures .0) (told .enum-told2 .given .1) (refused .refuse .ensures)
 
 sub-permute-into : tie.Need-sub-permute-into
 sub-permute-into c = search needs
@@ -109,7 +110,7 @@ finish-requires c κs =
     let a = start read .args in
     let k = sized read in (
       (omega (arith, back .work2 .given .1, k .work-long), k .result-long),
-      record-says (λ l. permuteRule l (now (a .permutation))) [] (now (a .«record»)) (now (a .result)) (now (a .work)) k tt (judged read) (back .work2 .given .0) (made .permute-into .ensures) .holds,
+      record-says (overRecord (now (a .«record»))) [] (permuteRule (layoutIn (now (a .«record»))) (now (a .permutation))) (now (a .«record»)) (now (a .result)) (now (a .work)) k tt (judged read) (back .work2 .given .0) (made .permute-into .ensures) .holds,
     )
 
 same-length-2 : tie.Need-same-length-2
@@ -126,7 +127,7 @@ returns-3 c =
     let made = back .before in
     let read = made .before .before in
     let a = start read .args in
-    record-done (λ l. permuteRule l (now (a .permutation))) [] (now (a .«record»)) (now (a .result)) (now (a .work)) (sized read) tt (judged read) (back .work2 .given .0) (made .permute-into .ensures)
+    record-done (overRecord (now (a .«record»))) [] (permuteRule (layoutIn (now (a .«record»))) (now (a .permutation))) (now (a .«record»)) (now (a .result)) (now (a .work)) (sized read) tt (judged read) (back .work2 .given .0) (made .permute-into .ensures)
     nothing-more (permute-refusing AboveTwo (omega arith) (omega arith) (omega arith) (omega arith) _ (now (a .permutation))) (finished .finish .ensures)
 
 pub permute-spec : {M : Type 1} → statement M

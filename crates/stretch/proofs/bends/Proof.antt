@@ -1,6 +1,6 @@
 -- `bends`: each answer by its own law.
 use Rattle.rules.specs.Layout.{alike}
-use Rattle.stretch.proofs.Heading.{straight, bent}
+use Rattle.stretch.proofs.Bending.{straight, bent}
 use Rattle.tables.specs.Rows.{rowAt}
 use denote.Ref.{now}
 use borrow.Author.Needs.{needs}

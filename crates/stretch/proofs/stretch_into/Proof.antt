@@ -30,23 +30,43 @@ returns-3 c =
     let f = i .before in
     breaks (f .before .pre .0) (f .shared-fit .ensures) (i .if1 .left) (w .if2 .left) (b .bends .ensures) (c .if3 .taken) _
 
+get-requires : tie.Need-get-requires
+get-requires c κs = search needs
+
+add-end : tie.Need-add-end
+add-end c = search needs
+
+mul-write-head : tie.Need-mul-write-head
+mul-write-head c = search needs
+
+sub-write-head : tie.Need-sub-write-head
+sub-write-head c = search needs
+
+part-write-head-start : tie.Need-part-write-head-start
+part-write-head-start c = search needs
+
+part-write-head-end : tie.Need-part-write-head-end
+part-write-head-end c = search needs
+
 write-head-requires : tie.Need-write-head-requires
 write-head-requires c κs =
-    let b = c .before .before in
+    let r = c .before .before .before in
+    let b = r .before .before in
     let w = b .before in
     let i = w .before .before in
     let f = i .before in
-    ask-head (f .before .pre .0) (f .shared-fit .ensures) (i .if1 .left) (w .if2 .left) (b .bends .ensures) (f .before .pre .1)
+    ask-head (f .before .pre .0) (f .shared-fit .ensures) (i .if1 .left) (w .if2 .left) (b .bends .ensures) (r .get .ensures .0) (f .before .pre .1)
 
 fill-requires : tie.Need-fill-requires
 fill-requires c κs =
     let x = c .before .before in
-    let s = x .before .before in
+    let r = x .before .before .before .before in
+    let s = r .before in
     let b = s .before in
     let w = b .before in
     let i = w .before .before in
     let f = i .before in
-    ask-fill (f .before .pre .0) (f .shared-fit .ensures) (i .if1 .left) (w .if2 .left) (b .bends .ensures) (s .if3 .left) (f .before .pre .1) (x .write-head .ensures)
+    ask-fill (f .before .pre .0) (f .shared-fit .ensures) (i .if1 .left) (w .if2 .left) (b .bends .ensures) (s .if3 .left) (r .get .ensures .0) (f .before .pre .1) (x .write-head .ensures)
 
 same-length : tie.Need-same-length
 same-length c = search needs
@@ -55,12 +75,13 @@ returns-4 : tie.Need-returns-4
 returns-4 c =
     let y = c .before .before in
     let x = y .before .before .before in
-    let s = x .before .before in
+    let r = x .before .before .before .before in
+    let s = r .before in
     let b = s .before in
     let w = b .before in
     let i = w .before .before in
     let f = i .before in
-    is-made (f .before .pre .0) (f .shared-fit .ensures) (i .if1 .left) (w .if2 .left) (b .bends .ensures) (s .if3 .left) (f .before .pre .1) (x .write-head .ensures) (y .fill .ensures) (c .if4 .taken)
+    is-made (f .before .pre .0) (f .shared-fit .ensures) (i .if1 .left) (w .if2 .left) (b .bends .ensures) (s .if3 .left) (r .get .ensures .0) (f .before .pre .1) (x .write-head .ensures) (y .fill .ensures) (c .if4 .taken)
 
 same-length-2 : tie.Need-same-length-2
 same-length-2 c = search needs
@@ -69,12 +90,13 @@ returns-5 : tie.Need-returns-5
 returns-5 c =
     let y = c .before .before in
     let x = y .before .before .before in
-    let s = x .before .before in
+    let r = x .before .before .before .before in
+    let s = r .before in
     let b = s .before in
     let w = b .before in
     let i = w .before .before in
     let f = i .before in
-    too-large (f .before .pre .0) (f .shared-fit .ensures) (i .if1 .left) (w .if2 .left) (b .bends .ensures) (s .if3 .left) (f .before .pre .1) (x .write-head .ensures) (y .fill .ensures) (c .if4 .left)
+    too-large (f .before .pre .0) (f .shared-fit .ensures) (i .if1 .left) (w .if2 .left) (b .bends .ensures) (s .if3 .left) (r .get .ensures .0) (f .before .pre .1) (x .write-head .ensures) (y .fill .ensures) (c .if4 .left)
 
 pub stretch-into-spec : {M : Type 1} → statement M
 stretch-into-spec =
@@ -85,6 +107,12 @@ stretch-into-spec =
     returns-2
     bends-requires
     returns-3
+    get-requires
+    add-end
+    mul-write-head
+    sub-write-head
+    part-write-head-start
+    part-write-head-end
     write-head-requires
     fill-requires
     same-length

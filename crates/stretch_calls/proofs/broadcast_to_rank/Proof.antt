@@ -2,6 +2,7 @@
 use mathlib.Core.Bool.{not, _||_}
 use mathlib.Core.Path.{_≡_, ap, _∙_}
 use Prim.Native.Nat.{_≤_}
+use mathlib.Core.List.{[], _∷_}
 use native.Mathlib.Omega.{arith}
 use borrow.Author.Needs.{needs}
 use denote.Ref.{now}
@@ -9,6 +10,7 @@ use lib.ListN.{length, length-take}
 use lib.Signed.{nonNeg}
 use mir.Syntax.{w32}
 use mir.ValLaws.{toZ-ofZ}
+use Rattle.rules.specs.Refusals.{_when_}
 use Rattle.rules.specs.Record.{natural, layoutIn}
 use Rattle.rules.specs.Arguments.{overRecord, overRank}
 use Rattle.rules.specs.Stretching.{broadcastToRank, broadcastToRankCall}
@@ -18,9 +20,11 @@ use Rattle.records.specs.Sound.{SoundRecord}
 use Rattle.records.proofs.SoundRecords.{sound-record}
 use Rattle.shapes.proofs.Reading.{handed-over, as-natural, sign-natural, sign-negative}
 use Rattle.judging.specs.LentSizes.{SizesKept}
-use Rattle.judging.proofs.Judged.{not-holds, not-fails}
+use Rattle.judging.proofs.Judged.{argument-wrong, argument-right, not-holds, not-fails}
 use Rattle.judging.proofs.Results.{rank-few}
-use Rattle.stretch_calls.proofs.StretchCalls.{stretch-early, stretch-kept, stretch-unsound, stretch-wrong, stretch-says, stretch-done, late-rank, rank-said}
+use Rattle.judging.proofs.LentSizes.{told-either}
+use Rattle.judging.proofs.RecordCalls.{record-early, record-kept, record-unsound, record-later, record-says, record-done}
+use Rattle.stretch_calls.proofs.StretchCalls.{late-rank, rank-said}
 use Rattle.stretch_calls.proofs.broadcast_to_rank.Statement.{statement}
 use Rattle.stretch_calls.proofs.broadcast_to_rank.Tie as tie
 
@@ -39,7 +43,7 @@ kept c =
     let over = sizes .before in
     let second = over .before in
     let a = startOf c .args in
-    stretch-kept (overRank (a .rank)) (not (nonNeg (a .rank))) (broadcastToRank (layoutIn (now (a .«record»))) (natural (a .rank))) (now (a .«record»)) (now (a .result)) (now (a .work)) (second .before .over-record .ensures) (over-told second) (over .either .ensures) (sizes .judge-sizes .ensures) (c .enum-told .given .1)
+    record-kept (overRecord (now (a .«record»)) || overRank (a .rank)) (5 when not (nonNeg (a .rank)) ∷ []) (broadcastToRank (layoutIn (now (a .«record»))) (natural (a .rank))) (now (a .«record»)) (now (a .result)) (now (a .work)) (told-either (overRecord (now (a .«record»))) (overRank (a .rank)) (second .before .over-record .ensures) (over-told second) (over .either .ensures)) (sizes .judge-sizes .ensures) (c .enum-told .given .1)
 
 -- where the record is read
 abbrev start : tie.After-known-told2 → tie.Start
@@ -86,7 +90,7 @@ returns c =
     let over = sizes .before in
     let second = over .before in
     let a = second .before .before .args in
-    stretch-early (overRank (a .rank)) (not (nonNeg (a .rank))) (broadcastToRank (layoutIn (now (a .«record»))) (natural (a .rank))) (now (a .«record»)) (now (a .result)) (now (a .work)) (second .before .over-record .ensures) (over-told second) (over .either .ensures) (sizes .judge-sizes .ensures) (c .before .why .given .1)
+    record-early (overRecord (now (a .«record»)) || overRank (a .rank)) (5 when not (nonNeg (a .rank)) ∷ []) (broadcastToRank (layoutIn (now (a .«record»))) (natural (a .rank))) (now (a .«record»)) (now (a .result)) (now (a .work)) (told-either (overRecord (now (a .«record»))) (overRank (a .rank)) (second .before .over-record .ensures) (over-told second) (over .either .ensures)) (sizes .judge-sizes .ensures) (c .before .why .given .1)
 
 enum-told : tie.Need-enum-told
 enum-told c = search needs
@@ -113,7 +117,7 @@ returns-2 c =
     let told = refused .before .before in
     let walked = told .before .before in
     let a = startOf (walked .before) .args in
-    stretch-unsound (overRank (a .rank)) (not (nonNeg (a .rank))) (broadcastToRank (layoutIn (now (a .«record»))) (natural (a .rank))) (now (a .«record»)) (now (a .result)) (now (a .work)) (kept (walked .before)) (walked .sound-head .ensures .0) (told .enum-told2 .given .1) (refused .refuse .ensures)
+    record-unsound (overRecord (now (a .«record»)) || overRank (a .rank)) (5 when not (nonNeg (a .rank)) ∷ []) (broadcastToRank (layoutIn (now (a .«record»))) (natural (a .rank))) (now (a .«record»)) (now (a .result)) (now (a .work)) (kept (walked .before)) (omega arith, tt) (walked .sound-head .ensures .0) (told .enum-told2 .given .1) (refused .refuse .ensures)
 
 sign-of-requires : tie.Need-sign-of-requires
 sign-of-requires c κs = search needs
@@ -138,8 +142,8 @@ returns-3 c =
     let signed = told .before .before in
     let read = signed .before in
     let a = start read .args in
-    stretch-wrong (overRank (a .rank)) (not (nonNeg (a .rank))) (broadcastToRank (layoutIn (now (a .«record»))) (natural (a .rank))) (now (a .«record»)) (now (a .result)) (now (a .work)) (sized read) (judged read)
-    (not-fails (nonNeg (a .rank)) (sign-negative _ (sign signed) (told .enum-told3 .given .1)))
+    record-later (overRecord (now (a .«record»)) || overRank (a .rank)) (5 when not (nonNeg (a .rank)) ∷ []) (broadcastToRank (layoutIn (now (a .«record»))) (natural (a .rank))) (now (a .«record»)) (now (a .result)) (now (a .work)) (sized read) (omega arith, tt) (judged read)
+    (argument-wrong _ (not-fails (nonNeg (a .rank)) (sign-negative _ (sign signed) (told .enum-told3 .given .1))))
     (refused .refuse2 .ensures)
 
 sub-stretch-to-rank : tie.Need-sub-stretch-to-rank
@@ -167,7 +171,7 @@ finish-requires c κs =
     let a = start read .args in
     let k = sized read in (
       (omega (arith, back .work3 .given .1, k .work-long), k .result-long),
-      stretch-says (overRank (a .rank)) (not (nonNeg (a .rank))) (broadcastToRank (layoutIn (now (a .«record»))) (natural (a .rank))) (now (a .«record»)) (now (a .result)) (now (a .work)) k (judged read) (back .work3 .given .0) (rank-said (layoutIn (now (a .«record»))) (as-natural _ (sign signed) (known .before .axes .given .1)) (made .stretch-to-rank .ensures)) .holds,
+      record-says (overRecord (now (a .«record»)) || overRank (a .rank)) (5 when not (nonNeg (a .rank)) ∷ []) (broadcastToRank (layoutIn (now (a .«record»))) (natural (a .rank))) (now (a .«record»)) (now (a .result)) (now (a .work)) k (omega arith, tt) (judged read) (back .work3 .given .0) (rank-said (layoutIn (now (a .«record»))) (as-natural _ (sign signed) (known .before .axes .given .1)) (made .stretch-to-rank .ensures)) .holds,
     )
 
 same-length-3 : tie.Need-same-length-3
@@ -186,8 +190,8 @@ returns-4 c =
     let signed = known .before .before .before in
     let read = signed .before in
     let a = start read .args in
-    stretch-done (overRank (a .rank)) (not (nonNeg (a .rank))) (broadcastToRank (layoutIn (now (a .«record»))) (natural (a .rank))) (now (a .«record»)) (now (a .result)) (now (a .work)) (sized read) (judged read) (back .work3 .given .0) (rank-said (layoutIn (now (a .«record»))) (as-natural _ (sign signed) (known .before .axes .given .1)) (made .stretch-to-rank .ensures))
-    (not-holds (nonNeg (a .rank)) (sign-natural _ (sign signed) (known .before .axes .given .1))) (late-rank _ _) (finished .finish .ensures)
+    record-done (overRecord (now (a .«record»)) || overRank (a .rank)) (5 when not (nonNeg (a .rank)) ∷ []) (broadcastToRank (layoutIn (now (a .«record»))) (natural (a .rank))) (now (a .«record»)) (now (a .result)) (now (a .work)) (sized read) (omega arith, tt) (judged read) (back .work3 .given .0) (rank-said (layoutIn (now (a .«record»))) (as-natural _ (sign signed) (known .before .axes .given .1)) (made .stretch-to-rank .ensures))
+    (argument-right _ (not-holds (nonNeg (a .rank)) (sign-natural _ (sign signed) (known .before .axes .given .1)))) (late-rank _ _) (finished .finish .ensures)
 
 pub broadcast-to-rank-spec : {M : Type 1} → statement M
 broadcast-to-rank-spec =

@@ -1,9 +1,11 @@
 -- `broadcast_to_shape`: what is judged, the step in the first part of the working buffer, and the end of the call.
 use mathlib.Core.Bool.{not, _||_}
+use mathlib.Core.List.{[], _∷_}
 use native.Mathlib.Omega.{arith}
 use borrow.Author.Needs.{needs}
 use denote.Ref.{now}
 use lib.ListN.{length, length-take}
+use Rattle.rules.specs.Refusals.{_when_}
 use Rattle.rules.specs.Record.{layoutIn, shapeIn, goodShape}
 use Rattle.rules.specs.Arguments.{overRecord, overShape}
 use Rattle.rules.specs.Stretching.{broadcastToShape, broadcastToShapeCall}
@@ -11,8 +13,10 @@ use Rattle.records.specs.Sound.{SoundRecord}
 use Rattle.records.proofs.SoundRecords.{sound-record}
 use Rattle.shapes.specs.Judged.{Judged}
 use Rattle.judging.specs.LentSizes.{SizesKept}
-use Rattle.judging.proofs.Judged.{not-holds, not-fails, told-not-true}
-use Rattle.stretch_calls.proofs.StretchCalls.{stretch-early, stretch-kept, stretch-unsound, stretch-wrong, stretch-says, stretch-done, late-shape, judged-shape, shape-asked, shape-said}
+use Rattle.judging.proofs.Judged.{argument-wrong, argument-right, not-holds, not-fails, told-not-true}
+use Rattle.judging.proofs.LentSizes.{told-either}
+use Rattle.judging.proofs.RecordCalls.{record-early, record-kept, record-unsound, record-later, record-says, record-done}
+use Rattle.stretch_calls.proofs.StretchCalls.{late-shape, judged-shape, shape-asked, shape-said}
 use Rattle.stretch_calls.proofs.broadcast_to_shape.Statement.{statement}
 use Rattle.stretch_calls.proofs.broadcast_to_shape.Tie as tie
 
@@ -27,7 +31,7 @@ kept c =
     let over = sizes .before in
     let second = over .before in
     let a = startOf c .args in
-    stretch-kept (overShape (now (a .shape))) (not (goodShape (now (a .shape)))) (broadcastToShape (layoutIn (now (a .«record»))) (shapeIn (now (a .shape)))) (now (a .«record»)) (now (a .result)) (now (a .work)) (second .before .over-record .ensures) (second .over-shape .ensures) (over .either .ensures) (sizes .judge-sizes .ensures) (c .enum-told .given .1)
+    record-kept (overRecord (now (a .«record»)) || overShape (now (a .shape))) (5 when not (goodShape (now (a .shape))) ∷ []) (broadcastToShape (layoutIn (now (a .«record»))) (shapeIn (now (a .shape)))) (now (a .«record»)) (now (a .result)) (now (a .work)) (told-either (overRecord (now (a .«record»))) (overShape (now (a .shape))) (second .before .over-record .ensures) (second .over-shape .ensures) (over .either .ensures)) (sizes .judge-sizes .ensures) (c .enum-told .given .1)
 
 -- where the record is read
 abbrev start : tie.After-known-told2 → tie.Start
@@ -67,7 +71,7 @@ returns c =
     let over = sizes .before in
     let second = over .before in
     let a = second .before .before .args in
-    stretch-early (overShape (now (a .shape))) (not (goodShape (now (a .shape)))) (broadcastToShape (layoutIn (now (a .«record»))) (shapeIn (now (a .shape)))) (now (a .«record»)) (now (a .result)) (now (a .work)) (second .before .over-record .ensures) (second .over-shape .ensures) (over .either .ensures) (sizes .judge-sizes .ensures) (c .before .why .given .1)
+    record-early (overRecord (now (a .«record»)) || overShape (now (a .shape))) (5 when not (goodShape (now (a .shape))) ∷ []) (broadcastToShape (layoutIn (now (a .«record»))) (shapeIn (now (a .shape)))) (now (a .«record»)) (now (a .result)) (now (a .work)) (told-either (overRecord (now (a .«record»))) (overShape (now (a .shape))) (second .before .over-record .ensures) (second .over-shape .ensures) (over .either .ensures)) (sizes .judge-sizes .ensures) (c .before .why .given .1)
 
 enum-told : tie.Need-enum-told
 enum-told c = search needs
@@ -94,7 +98,7 @@ returns-2 c =
     let told = refused .before .before in
     let walked = told .before .before in
     let a = startOf (walked .before) .args in
-    stretch-unsound (overShape (now (a .shape))) (not (goodShape (now (a .shape)))) (broadcastToShape (layoutIn (now (a .«record»))) (shapeIn (now (a .shape)))) (now (a .«record»)) (now (a .result)) (now (a .work)) (kept (walked .before)) (walked .sound-head .ensures .0) (told .enum-told2 .given .1) (refused .refuse .ensures)
+    record-unsound (overRecord (now (a .«record»)) || overShape (now (a .shape))) (5 when not (goodShape (now (a .shape))) ∷ []) (broadcastToShape (layoutIn (now (a .«record»))) (shapeIn (now (a .shape)))) (now (a .«record»)) (now (a .result)) (now (a .work)) (kept (walked .before)) (omega arith, tt) (walked .sound-head .ensures .0) (told .enum-told2 .given .1) (refused .refuse .ensures)
 
 good-shape-requires : tie.Need-good-shape-requires
 good-shape-requires c κs = search needs
@@ -112,8 +116,8 @@ returns-3 c =
     let wrong = refused .before .before in
     let read = wrong .before .before in
     let a = start read .args in
-    stretch-wrong (overShape (now (a .shape))) (not (goodShape (now (a .shape)))) (broadcastToShape (layoutIn (now (a .«record»))) (shapeIn (now (a .shape)))) (now (a .«record»)) (now (a .result)) (now (a .work)) (sized read) (judged read)
-    (not-fails (goodShape (now (a .shape))) (told-not-true (goodShape (now (a .shape))) (wrong .before .good-shape .ensures) (wrong .if1 .taken)))
+    record-later (overRecord (now (a .«record»)) || overShape (now (a .shape))) (5 when not (goodShape (now (a .shape))) ∷ []) (broadcastToShape (layoutIn (now (a .«record»))) (shapeIn (now (a .shape)))) (now (a .«record»)) (now (a .result)) (now (a .work)) (sized read) (omega arith, tt) (judged read)
+    (argument-wrong _ (not-fails (goodShape (now (a .shape))) (told-not-true (goodShape (now (a .shape))) (wrong .before .good-shape .ensures) (wrong .if1 .taken))))
     (refused .refuse2 .ensures)
 
 rank-requires : tie.Need-rank-requires
@@ -145,7 +149,7 @@ finish-requires c κs =
     let a = start read .args in
     let k = sized read in (
       (omega (arith, back .work3 .given .1, k .work-long), k .result-long),
-      stretch-says (overShape (now (a .shape))) (not (goodShape (now (a .shape)))) (broadcastToShape (layoutIn (now (a .«record»))) (shapeIn (now (a .shape)))) (now (a .«record»)) (now (a .result)) (now (a .work)) k (judged read) (back .work3 .given .0) (shape-said (judged read) (good fine) (ranked .rank .ensures) (made .stretch-into .ensures)) .holds,
+      record-says (overRecord (now (a .«record»)) || overShape (now (a .shape))) (5 when not (goodShape (now (a .shape))) ∷ []) (broadcastToShape (layoutIn (now (a .«record»))) (shapeIn (now (a .shape)))) (now (a .«record»)) (now (a .result)) (now (a .work)) k (omega arith, tt) (judged read) (back .work3 .given .0) (shape-said (judged read) (good fine) (ranked .rank .ensures) (made .stretch-into .ensures)) .holds,
     )
 
 same-length-3 : tie.Need-same-length-3
@@ -164,9 +168,9 @@ returns-4 c =
     let fine = ranked .before in
     let read = fine .before .before in
     let a = start read .args in
-    stretch-done (overShape (now (a .shape))) (not (goodShape (now (a .shape)))) (broadcastToShape (layoutIn (now (a .«record»))) (shapeIn (now (a .shape)))) (now (a .«record»)) (now (a .result)) (now (a .work)) (sized read) (judged read) (back .work3 .given .0)
+    record-done (overRecord (now (a .«record»)) || overShape (now (a .shape))) (5 when not (goodShape (now (a .shape))) ∷ []) (broadcastToShape (layoutIn (now (a .«record»))) (shapeIn (now (a .shape)))) (now (a .«record»)) (now (a .result)) (now (a .work)) (sized read) (omega arith, tt) (judged read) (back .work3 .given .0)
     (shape-said (judged read) (good fine) (ranked .rank .ensures) (made .stretch-into .ensures))
-    (not-holds (goodShape (now (a .shape))) (good fine .good)) (late-shape _ _) (finished .finish .ensures)
+    (argument-right _ (not-holds (goodShape (now (a .shape))) (good fine .good))) (late-shape _ _) (finished .finish .ensures)
 
 pub broadcast-to-shape-spec : {M : Type 1} → statement M
 broadcast-to-shape-spec =

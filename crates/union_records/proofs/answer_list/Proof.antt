@@ -4,8 +4,8 @@ use native.Mathlib.Omega.{arith}
 use lib.ListN.{length-take}
 use borrow.Author.Needs.{needs}
 use Rattle.rules.specs.Refusals.{numberOf}
-use Rattle.union_records.specs.Lines.{verdictText}
-use Rattle.union_records.proofs.Fronts.{front-is}
+use Rattle.record_text.specs.Lines.{verdictText}
+use Rattle.record_text.proofs.Fronts.{front-is}
 use Rattle.union_records.proofs.Verdicts.{leftover, no-leftover, union-held, union-why, held-sound, held-text}
 use Rattle.union_records.proofs.answer_list.Statement.{statement}
 use Rattle.union_records.proofs.answer_list.Tie as tie

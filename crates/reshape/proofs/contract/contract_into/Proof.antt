@@ -11,15 +11,19 @@ returns c = scalar-says (c .before .before .pre .0) (c .if1 .taken)
 sum-front-requires : tie.Need-sum-front-requires
 sum-front-requires c κs = search needs
 
+sub-shorter-places : tie.Need-sub-shorter-places
+sub-shorter-places c = search needs
+
 shorter-places-requires : tie.Need-shorter-places-requires
 shorter-places-requires c κs =
-    let some = c .before .before .before in
+    let some = c .before .before .before .before in
     let start = some .before .before in
-    few-axes (start .pre .0) (some .if1 .left)
+    let few = few-axes (start .pre .0) (some .if1 .left) in
+    omega arith
 
 pick-deps-requires : tie.Need-pick-deps-requires
 pick-deps-requires c κs =
-    let made = c .before .before .before in
+    let made = c .before .before .before .before in
     let some = made .before .before in
     let start = some .before .before in
     let few = few-axes (start .pre .0) (some .if1 .left) in
@@ -32,7 +36,7 @@ returns-2 : tie.Need-returns-2
 returns-2 c =
     let picked = c .before in
     let placed = picked .before .before in
-    let made = placed .before .before in
+    let made = placed .before .before .before in
     let some = made .before .before in
     let start = some .before .before in
     contracted-says (has-axis (start .pre .0) (some .if1 .left) (start .pre .1)) (made .sum-front .ensures) (placed .shorter-places .ensures) (picked .pick-deps .ensures)
@@ -43,6 +47,7 @@ contract-into-spec =
     (tie.spec
     returns
     sum-front-requires
+    sub-shorter-places
     shorter-places-requires
     pick-deps-requires
     same-length

@@ -13,7 +13,7 @@ add-end : tie.Need-add-end
 add-end c = search needs
 
 shorter-places-requires : tie.Need-shorter-places-requires
-shorter-places-requires c κs = axes-few (c .before .before .before .pre .0)
+shorter-places-requires c κs = let few = axes-few (c .before .before .before .pre .0) in omega arith
 
 pick-sorted-requires : tie.Need-pick-sorted-requires
 pick-sorted-requires c κs =

@@ -1,0 +1,5 @@
+pub mod Blocks
+pub mod Asked
+pub mod Measured
+pub mod Lines
+pub mod Joins
