@@ -1,11 +1,11 @@
 -- A layout made in the target: its head and rows, then its dependencies. Assumes nothing.
 use mathlib.Core.Path.{_≡_, refl, sym, ap, _∙_}
-use mathlib.Core.Bool.{Bool, true, false, not, _&&_}
-use mathlib.Core.List.{List, [], _∷_}
-use mathlib.Core.Logic.{inl, inr}
+use mathlib.Core.Bool.{Bool, true, false, not}
+use mathlib.Core.List.{List, []}
+use mathlib.Core.Logic.{inl}
 use Prim.Native.Nat.{ℕ, _+_, _-_, _<_, _≤_}
 use native.Mathlib.Omega.{arith}
-use borrow.Author.Tests.{not-true, not-false, le-leb}
+use borrow.Author.Tests.{not-true, not-false}
 use lib.IntN.{ℤ, pos}
 use lib.ListN.{length, getD, set, take, drop}
 use lib.Seq.{take-all}
@@ -15,28 +15,29 @@ use Rattle.rules.specs.declared.Step.{Step}
 use Rattle.rules.specs.declared.Step.the-variants.{Done, Refused}
 use Rattle.rules.specs.Buffers.{part}
 use Rattle.rules.specs.Refusals.{Verdict, given, refused, numberOf}
-use Rattle.rules.specs.Layout.{Layout, rank, width, few, withDeps, withinProduct, withinSizes, made}
-use Rattle.rules.specs.Soundness.{WellFormed, Sound, DepsLow}
+use Rattle.rules.specs.Layout.{Layout, rank, few, withinProduct, withinSizes, made}
+use Rattle.rules.specs.Soundness.{WellFormed, DepsLow}
 use Rattle.rules.specs.Concatenate.{Block, joinedDeps}
 use Rattle.rules.proofs.Same.{true-not-false}
 use Rattle.rules.proofs.Made.{made-sound}
 use Rattle.cells.specs.View.{view}
 use Rattle.cells.proofs.View.{view-part}
 use Rattle.tables.specs.Rows.{rowAt}
-use Rattle.tables.specs.Tables.{tableAt, roomEnd, Only, Ready}
+use Rattle.tables.specs.Tables.{tableAt, roomEnd, Only}
 use Rattle.tables.proofs.Rows.{row-length}
 use Rattle.tables.proofs.Only.{only-set, only-then, only-wider, view-outside, row-outside, table-outside, ready-outside}
 use Rattle.tables.proofs.Tables.{table-length}
 use Rattle.tables.proofs.Made.{emptied}
-use Rattle.parts.specs.Parts.{partSize, windowSize, target, spare, extentsFrom, rowsFrom, statesFrom, inputsFrom, kindAt, denseAt, rankAt, layoutAt, Holds}
+use Rattle.parts.specs.Parts.{partSize, windowSize, target, spare, extentsFrom, rowsFrom, statesFrom, inputsFrom, kindAt, denseAt, rankAt, layoutAt}
 use Rattle.parts.specs.Answers.{Says}
 use Rattle.parts.proofs.Copied.{number-copied, part-copied}
 use Rattle.parts.proofs.Lent.{lentOf, backIn, lent-length, lent-again, back-only}
 use Rattle.moving.specs.Sections.{HeadMade}
-use Rattle.join.specs.declared.entries.Listed.the-variants.{Rows, States, Inputs}
-use Rattle.join.specs.Merging.{Tabled, joined, blocksOf}
-use Rattle.join.specs.Assembling.{bare, withJoined, kept, depsKept, Framed, FrameAsked, FrameMade, DepsAsked, DepsMade, CompleteAsked}
-use Rattle.join.proofs.Forms.{made-within, sizes-kept}
+use Rattle.blocks.proofs.Formed.{form-made}
+use Rattle.entries.specs.declared.entries.Listed.the-variants.{States, Inputs}
+use Rattle.entries.specs.Merging.{Tabled, joined, blocksOf}
+use Rattle.join.specs.Assembling.{bare, withJoined, Framed, FrameAsked, FrameMade, DepsAsked, DepsMade, CompleteAsked}
+use Rattle.join.proofs.Sizes.{sizes-kept}
 
 -- ---- a head, and no rows: `write_frame`
 
@@ -216,7 +217,7 @@ module _ {r n : ℕ} {places : List ℕ} {starts : List (List ℕ)} {src s : Lis
     -- too many dependencies, or too large ones: 13
     pub too-large : b ≡ false → Says (made (withJoined r blocks frame)) target t (Refused MadeTooLarge)
     unfolding numberOf
-    too-large e = says-refused MadeTooLarge t (made-within (a .form) ∙ rw (within, e))
+    too-large e = says-refused MadeTooLarge t (form-made (a .form) ∙ rw (within, e))
 
     module _ (e : b ≡ true) where
       number-stays : (k : ℕ) → k < 520 → getD (view t) (target + k) 0 ≡ getD (view s) (target + k) 0
@@ -251,7 +252,7 @@ module _ {r n : ℕ} {places : List ℕ} {starts : List (List ℕ)} {src s : Lis
       -- it is made
       pub is-made : Says (made (withJoined r blocks frame)) target t Done
       is-made =
-          let is : made (withJoined r blocks frame) ≡ given (layoutAt target t) = made-within (a .form) ∙ rw (within, e, layout-there) in
+          let is : made (withJoined r blocks frame) ≡ given (layoutAt target t) = form-made (a .form) ∙ rw (within, e, layout-there) in
           let sound = made-sound is in
           record {
             is = sym is;

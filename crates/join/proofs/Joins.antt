@@ -1,33 +1,32 @@
 -- Blocks joined in the way that is theirs: `whole_extents`, `join_blocks`, `write_scalar` and `concatenate_into`. Assumes nothing.
-use mathlib.Core.Path.{_≡_, refl, sym, ap, _∙_, subst}
+use mathlib.Core.Path.{_≡_, refl, sym, ap, _∙_}
 use mathlib.Core.Bool.{Bool, true, false}
-use mathlib.Core.List.{List, [], _∷_, _++_, map, List·Memᴰ}
-use mathlib.Core.Logic.{inl, inr}
-use Prim.Native.Nat.{ℕ, zero, suc, _+_, _-_, _^_, _<_, _≤_}
+use mathlib.Core.List.{List, [], _∷_, List·Memᴰ, List·Memᴰ·head, List·Memᴰ·tail, Memᴰ·map}
+use mathlib.Core.Logic.{inl}
+use Prim.Native.Nat.{ℕ, _+_, _-_, _^_, _<_, _≤_}
 use native.Mathlib.Omega.{arith}
-use borrow.Author.Tests.{ne-eqb}
-use lib.Dec.{eqb}
+use borrow.Author.Tests.{eq-eqb, ne-eqb, ltb-false}
+use lib.Dec.{ltb}
 use lib.IntN.{ℤ, pos}
-use lib.ListN.{length, getD, set, take, drop, replicate, length-map, length-set}
-use lib.Seq.{take-take}
+use lib.ListN.{length, getD, set, take, length-map, length-set}
 use Rattle.rules.specs.declared.Refusal.the-variants.{Unjoinable as Refuses}
 use Rattle.rules.specs.declared.Step.{Step}
 use Rattle.rules.specs.declared.Step.the-variants.{Done, Refused}
 use Rattle.rules.specs.Limits.{rankLimit}
-use Rattle.rules.specs.Lists.{if, all, none, keep, product, sum, from, fitTo}
-use Rattle.rules.specs.Buffers.{part}
+use Rattle.rules.specs.Lists.{all, any, none, keep, product}
 use Rattle.rules.specs.RowsInOrder.{sorted, increasing}
-use Rattle.rules.specs.Refusals.{Verdict, given, refused, numberOf, lowest}
-use Rattle.rules.specs.Layout.{Layout, rank, withinProduct, wellFormed, withinSizes, made}
-use Rattle.rules.specs.Soundness.{WellFormed}
+use Rattle.rules.specs.Buffers.{part}
+use Rattle.rules.specs.Refusals.{given, numberOf, lowest}
+use Rattle.rules.specs.Layout.{rank, isDense, isSparse, withinProduct, wellFormed, withinSizes, made}
 use Rattle.rules.specs.CountsAndForms.{dense, newScalar}
-use Rattle.rules.specs.Concatenate.{Block, layoutsOf, shapesOf, firstExtent, laterExtent, laterAxes, joinedShape, blocksD, joinDiagonal, joinedRows, joinBlocks, concatenate}
+use Rattle.rules.specs.Concatenate.{Block, layoutsOf, joinedShape, blocksD, agree, joinDiagonal, joinedRows, joinBlocks, concatenate}
+use Rattle.rules.proofs.Same.{neither}
 use Rattle.rules.proofs.Sets.{each-nil}
+use Rattle.rules.proofs.Soundness.{OneKind, is-dense, is-diagonal, is-sparse, one-kind}
 use Rattle.rules.proofs.Changed.{RowBelow}
 use Rattle.rules.proofs.Made.{made-sound}
-use Rattle.rules.proofs.Ranges.{from-length}
 use Rattle.rules.proofs.Replaced.{fit-length}
-use Rattle.cells.specs.View.{view, Low}
+use Rattle.cells.specs.View.{view}
 use Rattle.tables.specs.Rows.{rowAt}
 use Rattle.tables.specs.Tables.{tableAt, Only}
 use Rattle.tables.proofs.Only.{only-set, view-outside, table-outside}
@@ -40,40 +39,55 @@ use Rattle.blocks.specs.declared.deciding.Way.{Way}
 use Rattle.blocks.specs.declared.deciding.Way.the-variants.{Unjoinable, Dense, Diagonal, Rows}
 use Rattle.blocks.specs.declared.deciding.Join.{Join}
 use Rattle.blocks.specs.Blocks.{blocksBy, BlocksAt}
-use Rattle.blocks.specs.Joins.{wayOf, denseBy, shapeBy, joinOf}
-use Rattle.blocks.proofs.Given.{Handed, at-hand, join-given}
-use Rattle.blocks.proofs.Joined.{joinedBy, join-by, join-extents, join-axes}
-use Rattle.join.specs.declared.entries.Listed.the-variants.{Rows as RowsOf, States, Inputs}
-use Rattle.join.specs.Merging.{smallTo, joined, blocksOf}
-use Rattle.join.specs.Assembling.{bare, sparseOf, withJoined, byRows, FrameMade, DepsAsked, BareAsked, DiagonalAsked, SparseAsked, JoinAsked}
-use Rattle.join.proofs.Forms.{AllFine, with-joined, bare-formed}
+use Rattle.blocks.specs.Joins.{wayOf, shapeBy, joinOf}
+use Rattle.blocks.proofs.Given.{at-hand, join-given}
+use Rattle.blocks.proofs.Joined.{length-dense, way-named, join-by, join-shape, join-axes}
+use Rattle.blocks.proofs.Formed.{SoundBlocks, form-joined, dense-form, rank-one, dense-one, d-low, length-diagonal, diagonal-form, no-axis, length-reach, rows-form}
+use Rattle.blocks.proofs.Verdicts.{way-diagonal, way-rows, blocks-sound}
+use Rattle.entries.specs.declared.entries.Listed.the-variants.{Rows as RowsOf, States, Inputs}
+use Rattle.entries.specs.Listing.{rowWidth}
+use Rattle.entries.specs.Merging.{blocksOf}
+use Rattle.join.specs.Assembling.{bare, withJoined, byRows, FrameMade, DepsAsked, BareAsked, DiagonalAsked, SparseAsked, JoinAsked}
+use Rattle.join.proofs.Sizes.{rows-small}
 use Rattle.join.proofs.Frames.{says-refused}
-use Rattle.join.proofs.RowForms.{reached, reached-length, RowsFit, rows-small, rows-formed}
-use Rattle.join.proofs.Handing.{handed, layouts-sound, all-fine, all-asked}
-use Rattle.join.proofs.Knowing.{dense-known, diagonal-known, rows-known, none-above, dense-most, rows-fitting}
+use Rattle.join.proofs.Handing.{handed, all-asked}
 
--- ---- extents
+-- ---- what the way says of each block
 
--- the first of extents that were fitted to four
-front-of : (shape rest : List ℕ) → take (length shape) (shape ++ rest) ≡ shape
-front-of [] rest = refl
-front-of (x ∷ shape) rest = ap (λ (l : List ℕ). x ∷ l) (front-of shape rest)
+any-none : {A : Type 0} (test : A → Bool) {l : List A} {x : A} → any test l ≡ false → List·Memᴰ x l → test x ≡ false
+unfolding any
+any-none test e (List·Memᴰ·head {x = y} {xs = l} d) = ap test d ∙ neither (test y) (any test l) e .0
+any-none test e (List·Memᴰ·tail {x = y} {xs = l} m) = any-none test (neither (test y) (any test l) e .1) m
 
-fitted-front : (r : ℕ) (shape : List ℕ) → length shape ≡ r → r ≤ 4 → take r (fitTo 4 0 shape) ≡ shape
-unfolding fitTo
-fitted-front r shape e h = take-take r 4 (shape ++ replicate 4 0) h ∙ rw (← e) (front-of shape (replicate 4 0))
+-- blocks that can be joined are not above the asked rank
+not-above : (r : ℕ) (blocks : List Block) → (wayOf r blocks ≡ Unjoinable → ⊥) → (b : Block) → List·Memᴰ b blocks → rank (b .layout) ≤ r
+unfolding wayOf
+not-above r blocks n b m = by (any (λ l. ltb r (rank l)) (layoutsOf blocks)) refl
+  where
+    by : (t : Bool) → any (λ l. ltb r (rank l)) (layoutsOf blocks) ≡ t → rank (b .layout) ≤ r
+    by true e = absurd (n (rw e))
+    by false e = ltb-false r (rank (b .layout)) (any-none (λ l. ltb r (rank l)) e (Memᴰ·map (λ (c : Block). c .layout) m))
 
-extents-are : (r : ℕ) (extents : List ℤ) (shape : List ℕ) {four : List ℕ} → view extents ≡ four → four ≡ fitTo rankLimit 0 shape → length shape ≡ r → r ≤ 4 → rowAt 0 r extents ≡ shape
-unfolding part
-extents-are r extents shape v f e h = ap (take r) (v ∙ f) ∙ fitted-front r shape e h
+-- blocks that are joined by rows have rows of R - D numbers
+module _ (r : ℕ) (blocks : List Block) (p : SoundBlocks r blocks) (few : r ≤ rankLimit) (w : wayOf r blocks ≡ Rows) where
+  row-width : (b : Block) → List·Memᴰ b blocks → r - blocksD blocks ≡ rowWidth (b .layout)
+  row-width b m = by (one-kind (p b m .layout .form))
+    where
+      known : agree r blocks ≡ true
+      known = way-rows r blocks w .0
 
--- a joined shape has the asked rank
-joined-length : (r : ℕ) (blocks : List Block) → length (joinedShape r blocks) ≡ r
-joined-length zero blocks = refl
-joined-length (suc k) blocks = rw (ne-eqb (suc k) 0 (λ e. omega arith), length-map, from-length) (omega arith)
+      whole : (b .layout .kind ≡ 2 → ⊥) → r - blocksD blocks ≡ rowWidth (b .layout)
+      whole n =
+          let test : isSparse (b .layout) ≡ false = ne-eqb (b .layout .kind) 2 n in
+          let z = no-axis r blocks p few known (way-rows r blocks w .1) b m test in
+          rw test (omega (arith, z, rank-one r blocks p few known b m))
 
-diagonal-length : (r : ℕ) (blocks : List Block) → length (joinDiagonal r blocks .shape) ≡ r
-diagonal-length r blocks = rw (length-map, from-length)
+      by : OneKind (b .layout) → r - blocksD blocks ≡ rowWidth (b .layout)
+      by (is-dense k) = whole (λ e. omega arith)
+      by (is-diagonal k) = whole (λ e. omega arith)
+      by (is-sparse k) =
+          let other : isDense (b .layout) ≡ false = ne-eqb (b .layout .kind) 0 (λ e. omega arith) in
+          rw (eq-eqb (b .layout .kind) 2 k) (omega (arith, rank-one r blocks p few known b m, dense-one r blocks p few known b m other))
 
 -- four numbers as a slice holds them
 pub extents-seen : (e : List ℕ) {x y z w : ℤ} → length e ≡ 4 → x ≡ pos (getD e 0 0) → y ≡ pos (getD e 1 0) → z ≡ pos (getD e 2 0) → w ≡ pos (getD e 3 0) →
@@ -88,6 +102,10 @@ extents-seen (a ∷ b ∷ c ∷ d ∷ f ∷ e) l p q r s = absurd (omega arith)
 
 -- ---- by the way
 
+-- ways that differ
+never : {x : Way} → x ≡ Unjoinable → (x ≡ Dense → ⊥) × (x ≡ Diagonal → ⊥) × (x ≡ Rows → ⊥)
+never e = (λ f. let z : _≡_ {A = ℕ} 0 1 = cc in omega arith, λ f. let z : _≡_ {A = ℕ} 0 1 = cc in omega arith, λ f. let z : _≡_ {A = ℕ} 0 1 = cc in omega arith)
+
 module _ {r n : ℕ} {places records : List ℕ} {starts : List (List ℕ)} {s t : List ℤ} (q : JoinAsked r n places records starts s t × (0 < n)) where
   abbrev its : List Block
   its = blocksOf r n places s
@@ -95,19 +113,16 @@ module _ {r n : ℕ} {places records : List ℕ} {starts : List (List ℕ)} {s t
   a : JoinAsked r n places records starts s t
   a = q .0
 
+  sound : SoundBlocks r its
+  sound = blocks-sound (handed a (q .1))
+
   pub ask-join : BlocksAt n records starts s × (r ≤ rankLimit)
   ask-join = (at-hand (handed a (q .1)), a .rank-most)
 
-  fine : ((b : Block) → List·Memᴰ b its → rank (b .layout) ≤ r) → AllFine r its
-  fine above = all-fine a above
-
-  deps : ((b : Block) → List·Memᴰ b its → rank (b .layout) ≤ r) → DepsAsked r n places starts s t
-  deps above = record {
-    rank-most = a .rank-most;
-    states = all-asked a States (λ b m. (above b m, refl));
-    inputs = all-asked a Inputs (λ b m. (above b m, refl));
-    room = a .room;
-  }
+  deps : (wayOf r its ≡ Unjoinable → ⊥) → DepsAsked r n places starts s t
+  deps m =
+      let above = not-above r its m in
+      record { rank-most = a .rank-most; states = all-asked a States (λ b i. (above b i, refl)); inputs = all-asked a Inputs (λ b i. (above b i, refl)); room = a .room }
 
   module _ {j : Join} (told : j ≡ joinOf r (blocksBy r n records starts s)) where
     is : j ≡ joinOf r its
@@ -115,40 +130,38 @@ module _ {r n : ℕ} {places records : List ℕ} {starts : List (List ℕ)} {s t
 
     -- there are four extents
     pub extents-four : length (j .extents) ≡ 4
-    extents-four = ap (λ (k : Join). length (k .extents)) told ∙ fit-length 4 0 (shapeBy (wayOf r (blocksBy r n records starts s)) r (blocksBy r n records starts s))
+    extents-four = ap (λ (k : Join). length (k .extents)) is ∙ fit-length 4 0 (shapeBy (wayOf r its) r its)
 
     -- they cannot be joined: 10
     pub not-joined : j .way ≡ Unjoinable → (u : List ℤ) → Says (joinBlocks r its) target u (Refused Refuses)
     unfolding numberOf
     not-joined f u = says-refused Refuses u (join-by r its is f)
 
-    named : {way : Way} → j .way ≡ way → wayOf r its ≡ way
-    named f = ap (λ (k : Join). k .way) (sym is) ∙ f
-
     module _ (extents : List ℤ) (four : length extents ≡ 4) (view-is : view extents ≡ j .extents) where
+      shape-is : {way : Way} → j .way ≡ way → (way ≡ Unjoinable → ⊥) → rowAt 0 r extents ≡ shapeBy way r its
+      unfolding part
+      shape-is f m = ap (take r) view-is ∙ join-shape r its is f m (a .rank-most)
+
       -- dense
       module _ (f : j .way ≡ Dense) where
-        dense-above : (b : Block) → List·Memᴰ b its → rank (b .layout) ≤ r
-        dense-above = none-above r its (dense-known r its (named f))
+        dense-way : wayOf r its ≡ Unjoinable → ⊥
+        dense-way e = never e .0 (way-named r its is f)
 
         dense-shape : rowAt 0 r extents ≡ joinedShape r its
-        dense-shape = extents-are r extents (joinedShape r its) view-is (join-extents r its is f) (joined-length r its) (a .rank-most)
+        dense-shape = shape-is f (λ e. never e .0 refl)
 
         axes-all : j .dense ≡ length (joinedShape r its)
-        axes-all = join-axes r its is f ∙ sym (joined-length r its)
+        axes-all = join-axes r its is f ∙ sym (length-dense r its)
 
         pub ask-dense : BareAsked 0 (j .dense) extents r n places starts s t
-        ask-dense =
-            let long = joined-length r its in
-            record {
-              deps = deps dense-above;
-              four = four;
-              kind-most = omega arith;
-              dense-most = omega (arith, axes-all, long);
-              form = rw dense-shape
-                  (with-joined (fine dense-above) long
-                  (bare-formed (joinedShape r its) (omega arith) (omega (arith, axes-all)) (omega (arith, long, a .rank-most)) (λ z. axes-all) (λ z. absurd (omega arith))));
-            }
+        unfolding dense
+        ask-dense = record {
+          deps = deps dense-way;
+          four = four;
+          kind-most = omega arith;
+          dense-most = omega (arith, axes-all, length-dense r its);
+          form = rw (dense-shape, axes-all) (form-joined sound (dense (joinedShape r its)) (length-dense r its) (dense-form r its sound (a .rank-most)));
+        }
 
         pub dense-said : {u : List ℤ} {step : Step} → Says (made (withJoined r its (bare 0 (j .dense) (rowAt 0 r extents)))) target u step → Says (joinBlocks r its) target u step
         unfolding dense
@@ -156,53 +169,58 @@ module _ {r n : ℕ} {places records : List ℕ} {starts : List (List ℕ)} {s t
 
       -- along the diagonal
       module _ (f : j .way ≡ Diagonal) where
-        line-above : (b : Block) → List·Memᴰ b its → rank (b .layout) ≤ r
-        line-above = none-above r its (diagonal-known r its (named f) .0)
+        named : wayOf r its ≡ Diagonal
+        named = way-named r its is f
 
         line-shape : rowAt 0 r extents ≡ joinDiagonal r its .shape
-        line-shape = extents-are r extents (joinDiagonal r its .shape) view-is (join-extents r its is f) (diagonal-length r its) (a .rank-most)
+        line-shape = shape-is f (λ e. never e .1 refl)
 
         line-axes : j .dense ≡ blocksD its
         line-axes = join-axes r its is f
 
         pub ask-diagonal : DiagonalAsked (j .dense) extents r n places starts s t
-        ask-diagonal = record {
-          deps = deps line-above;
-          four = four;
-          dense-most = rw line-axes (dense-most r its (diagonal-known r its (named f) .1) (layouts-sound a));
-          form = λ l e w. with-joined (fine line-above) e w;
-        }
+        ask-diagonal =
+            let known = way-diagonal r its named in
+            record {
+              deps = deps (λ e. never e .1 named);
+              four = four;
+              dense-most = rw line-axes (d-low r its sound (a .rank-most) (known .0));
+              form = rw (line-axes, line-shape)
+                  (λ h.
+                  form-joined sound (joinDiagonal r its) (length-diagonal r its sound (a .rank-most) (known .0))
+                  (diagonal-form r its sound (a .rank-most) (known .0) (known .1) h));
+            }
 
         pub diagonal-said : {u : List ℤ} {step : Step} → Says (made (withJoined r its (bare 1 (j .dense) (rowAt 0 r extents)))) target u step → Says (joinBlocks r its) target u step
         diagonal-said p = rw (join-by r its is f) (rw (line-shape, line-axes) at p)
 
       -- by rows
       module _ (f : j .way ≡ Rows) where
-        rows-above : (b : Block) → List·Memᴰ b its → rank (b .layout) ≤ r
-        rows-above = none-above r its (rows-known r its (named f) .0)
+        by-rows : wayOf r its ≡ Rows
+        by-rows = way-named r its is f
 
-        rows-shape : rowAt 0 r extents ≡ reached r its
-        rows-shape = extents-are r extents (reached r its) view-is (join-extents r its is f) (reached-length r its) (a .rank-most)
+        rows-shape : rowAt 0 r extents ≡ joinedRows r its .shape
+        rows-shape = shape-is f (λ e. never e .2 refl)
 
         rows-axes : j .dense ≡ blocksD its
         rows-axes = join-axes r its is f
 
-        rows-most : blocksD its ≤ r
-        rows-most = dense-most r its (rows-known r its (named f) .1) (layouts-sound a)
-
-        fitting : (b : Block) → List·Memᴰ b its → RowsFit r (r - blocksD its) b
-        fitting = rows-fitting r its (rows-known r its (named f) .1) (layouts-sound a) (rows-known r its (named f) .2)
+        agreed : agree r its ≡ true
+        agreed = way-rows r its by-rows .0
 
         pub ask-sparse : SparseAsked (j .dense) extents r n places starts s t
-        ask-sparse = record {
-          deps = deps rows-above;
-          rows = rw rows-axes (all-asked a RowsOf (λ b m. (fitting b m .rank-is, fitting b m .width-is)));
-          four = four;
-          dense-most = rw rows-axes rows-most;
-          form = rw (rows-axes, rows-shape) (rows-formed (fine rows-above) fitting rows-most (a .rank-most));
-          small = rw (rows-axes, rows-shape) (rows-small (fine rows-above) fitting (omega arith));
-          joins = λ l e w. with-joined (fine rows-above) e w;
-        }
+        ask-sparse =
+            let form = rows-form r its sound (a .rank-most) agreed (way-rows r its by-rows .1) in
+            let long = length-reach r its sound (a .rank-most) agreed (way-rows r its by-rows .1) in
+            record {
+              deps = deps (λ e. never e .2 by-rows);
+              rows = rw rows-axes (all-asked a RowsOf (λ b m. (rank-one r its sound (a .rank-most) agreed b m, row-width r its sound (a .rank-most) by-rows b m)));
+              four = four;
+              dense-most = rw rows-axes (d-low r its sound (a .rank-most) agreed);
+              form = rw (rows-axes, rows-shape) form;
+              small = rw (rows-axes, rows-shape) (rows-small (blocksD its) (joinedRows r its .shape) r its form long);
+              joins = form-joined sound;
+            }
 
         pub rows-said : {u : List ℤ} {step : Step} → Says (byRows (j .dense) (rowAt 0 r extents) r its) target u step → Says (joinBlocks r its) target u step
         rows-said p = rw (join-by r its is f) (rw (rows-shape, rows-axes) at p)

@@ -1,42 +1,44 @@
 -- The layout of each way: with no rows, along the diagonal, and by rows. Assumes nothing.
 use mathlib.Core.Path.{_≡_, refl, sym, ap, _∙_}
 use mathlib.Core.Bool.{Bool, true, false, not, _&&_}
-use mathlib.Core.List.{List, [], _∷_}
+use mathlib.Core.List.{List, []}
 use mathlib.Core.Logic.{inl, inr}
 use Prim.Native.Nat.{ℕ, _+_, _-_, _<_, _≤_}
 use native.Mathlib.Omega.{arith}
-use borrow.Author.Tests.{not-true, not-false, leb-true, le-leb, eq-eqb, ne-eqb}
-use lib.Dec.{leb, eqb}
+use borrow.Author.Tests.{not-true, not-false, leb-true, eq-eqb, ne-eqb}
+use lib.Dec.{eqb}
 use lib.IntN.{ℤ, pos}
-use lib.ListN.{length, getD, set, take, length-set}
+use lib.ListN.{length, getD, set, length-set}
 use lib.Seq.{getD-set-same}
 use Rattle.rules.specs.declared.Refusal.the-variants.{MadeUnsound, MadeTooLarge}
 use Rattle.rules.specs.declared.Step.{Step}
-use Rattle.rules.specs.declared.Step.the-variants.{Done, Refused}
+use Rattle.rules.specs.declared.Step.the-variants.{Refused}
 use Rattle.rules.specs.Lists.{if, all, product}
-use Rattle.rules.specs.RowsInOrder.{sorted}
-use Rattle.rules.specs.Refusals.{Verdict, given, refused, numberOf, inForm, _then_}
-use Rattle.rules.specs.Layout.{Layout, rank, width, few, alike, diagonalFits, withinProduct, withinSizes, made}
+use Rattle.rules.specs.Limits.{productLimit}
+use Rattle.rules.specs.RowsInOrder.{sorted, increasing-nil}
+use Rattle.rules.specs.Refusals.{Verdict, given, refused, numberOf}
+use Rattle.rules.specs.Layout.{Layout, rank, few, nonzeroProduct, withinProduct, withinSizes, made}
 use Rattle.rules.specs.Soundness.{WellFormed}
 use Rattle.rules.specs.CountsAndForms.{toDense, denseIfFull}
 use Rattle.rules.specs.Concatenate.{Block}
-use Rattle.rules.proofs.Same.{true-not-false, both-true}
-use Rattle.rules.proofs.Forming.{bad-diagonal-made}
+use Rattle.rules.proofs.Same.{true-not-false}
+use Rattle.rules.proofs.Sets.{each-nil}
+use Rattle.rules.proofs.Forming.{DepOfRank, DepsOfRank, Framed as Forms, to-dense-framed, bad-diagonal-made}
 use Rattle.cells.specs.View.{view}
 use Rattle.cells.proofs.View.{view-length, view-set}
 use Rattle.tables.specs.Rows.{rowAt}
-use Rattle.tables.specs.Tables.{tableAt, roomEnd, Only, Ready}
+use Rattle.tables.specs.Tables.{tableAt, roomEnd, Only}
 use Rattle.tables.proofs.Rows.{row-length}
 use Rattle.tables.proofs.Only.{only-set, view-outside, row-outside}
 use Rattle.tables.proofs.Tables.{table-length}
 use Rattle.tables.proofs.Made.{emptied}
 use Rattle.parts.specs.Parts.{windowSize, target, spare, extentsFrom, rowsFrom, layoutAt}
 use Rattle.parts.specs.Answers.{Says}
-use Rattle.stretch.proofs.Fitting.{front-row}
-use Rattle.join.specs.declared.entries.Listed.the-variants.{Rows}
-use Rattle.join.specs.Merging.{smallTo, Tabled, joined, blocksOf}
-use Rattle.join.specs.Assembling.{bare, sparseOf, withJoined, byRows, kept, Framed, FrameAsked, FrameMade, DepsAsked, CompleteAsked, BareAsked, DiagonalAsked, RowsAsked, RowsMade, SparseAsked}
-use Rattle.join.proofs.Forms.{made-within, sizes-kept, bare-formed}
+use Rattle.blocks.proofs.Formed.{form-made}
+use Rattle.entries.specs.declared.entries.Listed.the-variants.{Rows}
+use Rattle.entries.specs.Merging.{Tabled, joined, blocksOf}
+use Rattle.join.specs.Assembling.{bare, sparseOf, withJoined, byRows, Framed, FrameAsked, FrameMade, DepsAsked, CompleteAsked, BareAsked, DiagonalAsked, RowsAsked, RowsMade, SparseAsked}
+use Rattle.join.proofs.Sizes.{sizes-kept}
 use Rattle.join.proofs.Frames.{ask-complete, said-same, says-refused}
 
 -- a test that fails and one that holds
@@ -68,7 +70,7 @@ module _ {kind dense : ℕ} (extents : List ℤ) {r n : ℕ} {places : List ℕ}
     unfolding numberOf
     bare-over e t =
         says-refused MadeTooLarge t
-        (sizes-over (withJoined r bareBlocks bareFrame) (made-within (a .form)) (sizes-kept r bareBlocks bareFrame bare-rank ∙ rw (← told, not-true b e)))
+        (sizes-over (withJoined r bareBlocks bareFrame) (form-made (a .form)) (sizes-kept r bareBlocks bareFrame bare-rank ∙ rw (← told, not-true b e)))
 
     module _ (e : not b ≡ false) {t : List ℤ} (m : FrameMade bareFrame s t) where
       pub ask-bare : CompleteAsked r n places starts src t
@@ -78,45 +80,30 @@ module _ {kind dense : ℕ} (extents : List ℤ) {r n : ℕ} {places : List ℕ}
       Says (made (withJoined r bareBlocks bareFrame)) target u step
   bare-said m p = said-same (m .frame) r bareBlocks p
 
--- ---- a diagonal: `diagonal_fits` and `join_diagonal`
+-- ---- a diagonal: `join_diagonal`
 
-pub no-axis : (width : ℕ) (shape : List ℕ) → width ≡ 0 → false ≡ leb 1 width && alike shape
-no-axis width shape e = rw e
-
-pub some-axis : (width : ℕ) (shape : List ℕ) {b : Bool} → (width ≡ 0 → ⊥) → b ≡ alike shape → b ≡ leb 1 width && alike shape
-some-axis width shape n e = e ∙ rw (le-leb 1 width (by width n))
-  where
-    by : (w : ℕ) → (w ≡ 0 → ⊥) → 1 ≤ w
-    by w m = omega arith
-
-module _ {dense : ℕ} (extents : List ℤ) {r n : ℕ} {places : List ℕ} {starts : List (List ℕ)} {src s : List ℤ} (a : DiagonalAsked dense extents r n places starts src s)
-    {b : Bool} (told : b ≡ leb 1 (r - dense) && alike (rowAt 0 (r - dense) extents)) where
+module _ {dense : ℕ} (extents : List ℤ) {r n : ℕ} {places : List ℕ} {starts : List (List ℕ)} {src s : List ℤ} (a : DiagonalAsked dense extents r n places starts src s) where
   abbrev line : Layout
   line = bare 1 dense (rowAt 0 r extents)
 
   line-rank : rank line ≡ r
   line-rank = row-length 0 r extents (omega (arith, a .four, a .deps .rank-most))
 
-  fits-told : diagonalFits (withJoined r (blocksOf r n places src) line) ≡ b
-  fits-told = rw line-rank (rw (← front-row 0 (r - dense) r extents (omega arith)) (sym told))
-
-  -- it has no axis, or unlike extents: 12
-  pub line-bends : not b ≡ true → (t : List ℤ) → Says (made (withJoined r (blocksOf r n places src) line)) target t (Refused MadeUnsound)
+  -- no axis is left for it: 12
+  pub line-none : r ≡ dense → (t : List ℤ) → Says (made (withJoined r (blocksOf r n places src) line)) target t (Refused MadeUnsound)
   unfolding numberOf
-  line-bends e t = says-refused MadeUnsound t (bad-diagonal-made (withJoined r (blocksOf r n places src) line) refl (fits-told ∙ not-true b e))
+  line-none e t =
+      let none : length (rowAt 0 r extents) - dense ≡ 0 = omega (arith, line-rank) in
+      says-refused MadeUnsound t (bad-diagonal-made (withJoined r (blocksOf r n places src) line) refl (rw none))
 
-  pub ask-line : not b ≡ false → BareAsked 1 dense extents r n places starts src s
-  ask-line e =
-      let k = both-true (leb 1 (r - dense)) (alike (rowAt 0 (r - dense) extents)) (sym told ∙ not-false b e) in
-      record {
-        deps = a .deps;
-        four = a .four;
-        kind-most = omega arith;
-        dense-most = a .dense-most;
-        form = a .form line line-rank
-            (bare-formed (rowAt 0 r extents) (omega arith) (rw line-rank (a .dense-most)) (rw line-rank (a .deps .rank-most)) (λ z. absurd (omega arith))
-            (λ z. rw line-rank (leb-true 1 (r - dense) (k .0), rw (← front-row 0 (r - dense) r extents (omega arith)) (k .1))));
-      }
+  pub ask-line : (r ≡ dense → ⊥) → BareAsked 1 dense extents r n places starts src s
+  ask-line n = record {
+    deps = a .deps;
+    four = a .four;
+    kind-most = omega arith;
+    dense-most = a .dense-most;
+    form = a .form (omega (arith, a .dense-most));
+  }
 
 -- ---- by rows: `add_rows`
 
@@ -255,7 +242,7 @@ module _ {dense : ℕ} (extents : List ℤ) {r n : ℕ} {places : List ℕ} {sta
       by false y = refl
 
   rows-made : made itsRows ≡ if (withinProduct (rowAt 0 r extents) && few (sorted (joined Rows r itsBlocks))) (given itsRows) (refused 13)
-  rows-made = made-within (a .form) ∙ rw rows-sizes
+  rows-made = form-made (a .form) ∙ rw rows-sizes
 
   over : withinProduct (rowAt 0 r extents) && few (sorted (joined Rows r itsBlocks)) ≡ false → byRows dense (rowAt 0 r extents) r itsBlocks ≡ refused 13
   over e = rw (rows-made, e)
@@ -292,12 +279,24 @@ module _ {dense : ℕ} (extents : List ℤ) {r n : ℕ} {places : List ℕ} {sta
           given-is : byRows dense (rowAt 0 r extents) r itsBlocks ≡ made (withJoined r itsBlocks whole)
           given-is = rw (rows-made, inside, few-rows)
 
+          -- sound but for its rows
+          its-frame : Forms itsRows
+          unfolding withinProduct
+          its-frame =
+              let none : DepsOfRank (rank itsRows) [] = record { each = each-nil (DepOfRank (rank itsRows)); increase = increasing-nil } in
+              record {
+                rank-most = rw rows-rank (a .deps .rank-most);
+                product-most = leb-true (nonzeroProduct (rowAt 0 r extents)) productLimit inside;
+                states-are = none;
+                inputs-are = none;
+              }
+
           form : WellFormed whole
           unfolding denseIfFull toDense
           form = by (eqb (length (sorted (joined Rows r itsBlocks))) (product (rowAt 0 r extents))) refl
             where
               by : (z : Bool) → eqb (length (sorted (joined Rows r itsBlocks))) (product (rowAt 0 r extents)) ≡ z → WellFormed whole
-              by true g = rw g (bare-formed (rowAt 0 r extents) (omega arith) (omega arith) (rw rows-rank (a .deps .rank-most)) (λ _. refl) (λ z. absurd (omega arith)))
+              by true g = rw g (to-dense-framed its-frame .form)
               by false g = rw g (a .form)
 
           shape-is : whole .shape ≡ rowAt 0 r extents

@@ -2,7 +2,7 @@
 use mathlib.Core.Path.{_≡_}
 use mathlib.Core.Bool.{Bool, true, _&&_}
 use mathlib.Core.List.{List, [], map}
-use Prim.Native.Nat.{ℕ, _+_, _-_, _≤_}
+use Prim.Native.Nat.{ℕ, _+_, _-_, _<_, _≤_}
 use lib.IntN.{ℤ}
 use lib.ListN.{length, getD, drop}
 use Rattle.rules.specs.Limits.{rankLimit}
@@ -22,10 +22,10 @@ use Rattle.parts.specs.Parts.{windowSize, target, extentsFrom, rowsFrom, states
 use Rattle.lists.specs.Places.{standing, Inside, EachAt, PlacesOf}
 use Rattle.lists.specs.Starts.{blocksAt, startsIn, StartsOf}
 use Rattle.lists.specs.Records.{JudgedRecord}
-use Rattle.join.specs.declared.entries.Listed.{Listed}
-use Rattle.join.specs.declared.entries.Listed.the-variants.{Rows, States, Inputs}
-use Rattle.join.specs.Listing.{axesIn}
-use Rattle.join.specs.Merging.{smallTo, joined, AllAsked, blocksOf}
+use Rattle.entries.specs.declared.entries.Listed.{Listed}
+use Rattle.entries.specs.declared.entries.Listed.the-variants.{Rows, States, Inputs}
+use Rattle.entries.specs.Listing.{axesIn}
+use Rattle.entries.specs.Merging.{smallTo, joined, AllAsked, blocksOf}
 
 -- ---- what is made
 
@@ -113,12 +113,12 @@ pub record BareAsked (kind dense : ℕ) (extents : List ℤ) (r n : ℕ) (places
   pub dense-most : dense ≤ r
   pub form : WellFormed (withJoined r (blocksOf r n places s) (bare kind dense (rowAt 0 r extents)))
 
--- a D for a diagonal, whose dependencies fit any layout of the rank
+-- a diagonal that is sound, but for the product of its extents, if an axis is left for it
 pub record DiagonalAsked (dense : ℕ) (extents : List ℤ) (r n : ℕ) (places : List ℕ) (starts : List (List ℕ)) (s t : List ℤ) : Type 0 where
   pub deps : DepsAsked r n places starts s t
   pub four : length extents ≡ rankLimit
   pub dense-most : dense ≤ r
-  pub form : (l : Layout) → rank l ≡ r → WellFormed l → WellFormed (withJoined r (blocksOf r n places s) l)
+  pub form : dense < r → WellFormed (withJoined r (blocksOf r n places s) (bare 1 dense (rowAt 0 r extents)))
 
 -- all blocks, whose rows have R - D numbers, and extents within the limit
 pub record RowsAsked (dense : ℕ) (extents : List ℤ) (r n : ℕ) (places : List ℕ) (starts : List (List ℕ)) (s t : List ℤ) : Type 0 where

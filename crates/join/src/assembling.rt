@@ -1,11 +1,9 @@
 // The layout that blocks are joined to, in the target of a window.
 ghost use mathlib.Core.Path.{_≡_};
-ghost use mathlib.Core.Bool.{_&&_};
 ghost use Prim.Native.Nat.{_+_, _-_, _<_, _≤_};
-ghost use lib.Dec.{leb};
 ghost use lib.IntN.{pos};
 ghost use lib.ListN.{length, set};
-ghost use Rattle.rules.specs.Layout.{alike, made};
+ghost use Rattle.rules.specs.Layout.{made};
 ghost use Rattle.rules.specs.CountsAndForms.{newScalar};
 ghost use Rattle.rules.specs.Concatenate.{joinBlocks, concatenate};
 ghost use Rattle.rules.specs.Refusals.{given};
@@ -14,11 +12,11 @@ ghost use Rattle.cells.specs.View.{view, Low};
 ghost use Rattle.tables.specs.Rows.{rowAt};
 ghost use Rattle.parts.specs.Parts.{windowSize, target, rowsFrom, layoutAt};
 ghost use Rattle.parts.specs.Answers.{Says};
-ghost use Rattle.join.specs.Merging.{blocksOf};
+ghost use Rattle.entries.specs.Merging.{blocksOf};
 ghost use Rattle.join.specs.Assembling.{bare, withJoined, byRows, FrameAsked, FrameMade, DepsAsked, DepsMade, CompleteAsked, BareAsked, DiagonalAsked, RowsAsked, RowsMade, SparseAsked, JoinAsked};
-use super::entries::Listed;
-use super::merging::merge_blocks;
 use blocks::Way;
+use entries::Listed;
+use entries::merge_blocks;
 use parts::DENSE;
 use parts::INPUTS;
 use parts::ROWS;
@@ -124,18 +122,7 @@ fn join_bare(
     complete(s, places, n, starts, rank, window)
 }
 
-// Whether extents make a diagonal: it has an axis, and the extents of its axes are the same.
-fn diagonal_fits(extents: [i32; 4], width: usize) -> bool
-    requires { ⌜ width ≤ 4 ⌝ }
-    ensures { λ r. ⌜ r ≡ leb 1 width && alike (rowAt 0 width extents) ⌝ }
-{
-    if width == 0 {
-        return false;
-    }
-    records::alike(&extents, 0, width)
-}
-
-// The blocks become a diagonal: 12 where its extents are unlike, or it has no axis.
+// The blocks become a diagonal: 12 where no axis is left for it.
 fn join_diagonal(
     s: &[i32],
     places: [usize; 16],
@@ -149,7 +136,7 @@ fn join_diagonal(
     requires { ⌜ DiagonalAsked dense extents rank n places starts (now s) (now window) ⌝ }
     ensures { λ r. ⌜ Says (made (withJoined rank (blocksOf rank n places (now (s .entry))) (bare 1 dense (rowAt 0 rank extents)))) target (now (window .exit)) r ⌝ }
 {
-    if !diagonal_fits(extents, rank - dense) {
+    if rank == dense {
         return Step::Refused(Refusal::MadeUnsound);
     }
     join_bare(s, places, n, starts, 1, dense, extents, rank, window)

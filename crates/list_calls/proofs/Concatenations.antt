@@ -45,7 +45,7 @@ use Rattle.judging.proofs.Judged.{reason-holds, reason-passed}
 use Rattle.judging.proofs.LentSizes.{kept-sizes, refused-sizes}
 use Rattle.judging.proofs.Endings.{ends-early, ends-late, ends-done}
 use Rattle.blocks.proofs.Answers.{concatenate-refusing}
-use Rattle.join.specs.Merging.{blocksOf}
+use Rattle.entries.specs.Merging.{blocksOf}
 use Rattle.join.specs.Assembling.{JoinAsked}
 
 -- ---- the records of a list

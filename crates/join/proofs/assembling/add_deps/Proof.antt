@@ -14,7 +14,9 @@ same-length : tie.Need-same-length
 same-length c = search needs
 
 returns : tie.Need-returns
-returns c = let m = c .before .before in states-over (m .before .before .pre) (m .merge-blocks .ensures) (c .if1 .taken)
+returns c =
+    let m = c .before .before in
+    states-over (m .before .before .pre) (m .merge-blocks .ensures) (c .if1 .taken)
 
 merge-blocks-requires-2 : tie.Need-merge-blocks-requires-2
 merge-blocks-requires-2 c κs = search needs
@@ -23,7 +25,11 @@ same-length-2 : tie.Need-same-length-2
 same-length-2 c = search needs
 
 returns-2 : tie.Need-returns-2
-returns-2 c = let m = c .before in let i = m .before .before in let p = i .before .before in deps-made (p .before .before .pre) (p .merge-blocks .ensures) (i .if1 .left) (m .merge-blocks2 .ensures)
+returns-2 c =
+    let m = c .before in
+    let i = m .before .before in
+    let p = i .before .before in
+    deps-made (p .before .before .pre) (p .merge-blocks .ensures) (i .if1 .left) (m .merge-blocks2 .ensures)
 
 pub add-deps-spec : {M : Type 1} → statement M
 add-deps-spec =

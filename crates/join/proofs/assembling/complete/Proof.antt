@@ -11,13 +11,17 @@ same-length : tie.Need-same-length
 same-length c = search needs
 
 returns : tie.Need-returns
-returns c = let d = c .before .before in is-made (d .before .before .pre) (d .add-deps .ensures) (c .if1 .taken)
+returns c =
+    let d = c .before .before in
+    is-made (d .before .before .pre) (d .add-deps .ensures) (c .if1 .taken)
 
 same-length-2 : tie.Need-same-length-2
 same-length-2 c = search needs
 
 returns-2 : tie.Need-returns-2
-returns-2 c = let d = c .before .before in too-large (d .before .before .pre) (d .add-deps .ensures) (c .if1 .left)
+returns-2 c =
+    let d = c .before .before in
+    too-large (d .before .before .pre) (d .add-deps .ensures) (c .if1 .left)
 
 pub complete-spec : {M : Type 1} → statement M
 complete-spec = tie.close (tie.spec add-deps-requires same-length returns same-length-2 returns-2)

@@ -8,7 +8,9 @@ join-of-requires : tie.Need-join-of-requires
 join-of-requires c κs = ask-join (c .pre)
 
 whole-extents-requires : tie.Need-whole-extents-requires
-whole-extents-requires c κs = let j = c .before in (j .join-of .ensures .1 .0, extents-four (j .before .pre) (j .join-of .ensures .0))
+whole-extents-requires c κs =
+    let j = c .before in
+    (j .join-of .ensures .1 .0, extents-four (j .before .pre) (j .join-of .ensures .0))
 
 enum-told : tie.Need-enum-told
 enum-told c = search needs

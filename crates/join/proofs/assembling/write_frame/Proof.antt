@@ -33,7 +33,11 @@ same-length : tie.Need-same-length
 same-length c = search needs
 
 returns : tie.Need-returns
-returns c = let st = c .before in let h = st .before .before .before in let s = h .before .before .before .before in frame-made (now (s .args .window)) (s .pre) (s .args .t4) (search needs) (search needs) (h .write-head .ensures) (st .store .ensures)
+returns c =
+    let st = c .before in
+    let h = st .before .before .before in
+    let s = h .before .before .before .before in
+    frame-made (now (s .args .window)) (s .pre) (s .args .t4) (search needs) (search needs) (h .write-head .ensures) (st .store .ensures)
 
 pub write-frame-spec : {M : Type 1} → statement M
 write-frame-spec =

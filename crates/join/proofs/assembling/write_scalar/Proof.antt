@@ -17,7 +17,11 @@ same-length : tie.Need-same-length
 same-length c = search needs
 
 returns : tie.Need-returns
-returns c = let t = c .before in let s = t .before .before .before in let f = s .before .before .before in scalar-said (f .before .before .pre) _ (f .write-frame .ensures) (s .store .ensures) (t .store2 .ensures)
+returns c =
+    let t = c .before in
+    let s = t .before .before .before in
+    let f = s .before .before .before in
+    scalar-said (f .before .before .pre) _ (f .write-frame .ensures) (s .store .ensures) (t .store2 .ensures)
 
 pub write-scalar-spec : {M : Type 1} → statement M
 write-scalar-spec =

@@ -1,7 +1,6 @@
 -- `concatenate`: what is judged of the list, the step in a window of the working buffer, and the end of the call.
 use mathlib.Core.Bool.{not, _&&_, _||_}
 use mathlib.Core.Path.{_≡_, ap, _∙_}
-use Prim.Native.Nat.{_≤_}
 use native.Mathlib.Omega.{arith}
 use borrow.Author.Needs.{needs}
 use denote.Ref.{now}
@@ -10,7 +9,6 @@ use lib.ListN.{length, length-take}
 use lib.Signed.{nonNeg}
 use mir.Syntax.{w32}
 use mir.ValLaws.{toZ-ofZ}
-use Rattle.rules.specs.Limits.{rankLimit}
 use Rattle.rules.specs.Lists.{if, all, any}
 use Rattle.rules.specs.Record.{natural, listCount, blocksIn, sound}
 use Rattle.rules.specs.Arguments.{overCount, overRank, overRecord}
@@ -64,7 +62,9 @@ kept c =
 
 -- whether all are sound
 told-sound : (c : tie.After-all-sound) → c .all-sound .result ≡ all (λ b. sound (b .layout)) (blocksIn (begin (movedOf (c .before)) .args .count) (begin (movedOf (c .before)) .args .rank) (now (begin (movedOf (c .before)) .args .blocks)))
-told-sound c = let m = movedOf (c .before) in c .all-sound .ensures .0 ∙ sound-are (begin m .args .count) (begin m .args .rank) (now (begin m .args .blocks)) (n-is m) (axes-is m) (end-is m) (m .before .places .ensures) (m .moved .ensures)
+told-sound c =
+    let m = movedOf (c .before) in
+    c .all-sound .ensures .0 ∙ sound-are (begin m .args .count) (begin m .args .rank) (now (begin m .args .blocks)) (n-is m) (axes-is m) (end-is m) (m .before .places .ensures) (m .moved .ensures)
 
 -- whether something is wrong
 told-wrong : (c : tie.After-wrong-blocks) → c .wrong-blocks .result ≡ not (nonNeg (begin (movedOf (c .before .before .before)) .args .rank) && all goodBlock (blocksIn (begin (movedOf (c .before .before .before)) .args .count) (begin (movedOf (c .before .before .before)) .args .rank) (now (begin (movedOf (c .before .before .before)) .args .blocks))))
