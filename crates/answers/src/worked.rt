@@ -1,4 +1,5 @@
 // Operations that are lent a result buffer and a working buffer. The last two numbers of a request are their lengths.
+use requests::byte;
 use requests::list;
 use requests::number;
 use rules::Written;
@@ -102,25 +103,13 @@ fn of_one(
             out,
         ),
         26 => ended(
-            layout::broadcast(first, asked, operator(request, at[2]), result, work),
+            layout::broadcast(first, asked, byte(request, at[2]), result, work),
             result,
             work,
             out,
         ),
         _ => replies::word(b"unknown", out, 0),
     }
-}
-
-// The operator byte of a request; a number that is no byte stands for an operator that is not named.
-fn operator(request: &[i32], at: usize) -> u8 {
-    let n = number(request, at);
-    if n < 0 {
-        return 0;
-    }
-    if 255 < n {
-        return 0;
-    }
-    n as u8
 }
 
 // What a call wrote, and whether it left the buffers well.

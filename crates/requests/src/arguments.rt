@@ -86,6 +86,17 @@ pub fn number(request: &[i32], at: usize) -> i32 {
     0
 }
 
+// The number at a place as a byte; 0 where it is none.
+pub fn byte(request: &[i32], at: usize) -> u8 {
+    let Sign::Natural(n) = cells::sign_of(number(request, at)) else {
+        return 0;
+    };
+    if 255 < n {
+        return 0;
+    }
+    n as u8
+}
+
 // The length that a request asks for at a place counted from its end, for a buffer that has room for so many.
 pub fn length(request: &[i32], from_end: usize, most: usize) -> usize
     ensures { λ r. ⌜ r ≤ most ⌝ }

@@ -2,6 +2,7 @@
 mod arguments; // arguments.rt: where they stand among the line's numbers
 mod buffers; // buffers.rt: the pattern in the lent buffers
 
+pub use arguments::byte;
 pub use arguments::first;
 pub use arguments::form;
 pub use arguments::length;
