@@ -41,6 +41,12 @@ fn answer(
             work,
             out,
         ),
+        23 => ended(
+            layout::intersect(first, second, result, work),
+            result,
+            work,
+            out,
+        ),
         25 => ended(
             layout::permute(first, second, result, work),
             result,
@@ -74,8 +80,26 @@ fn of_one(
             work,
             out,
         ),
+        26 => ended(
+            layout::broadcast(first, asked, operator(request, at[2]), result, work),
+            result,
+            work,
+            out,
+        ),
         _ => replies::word(b"unknown", out, 0),
     }
+}
+
+// The operator byte of a request; a number that is no byte stands for an operator that is not named.
+fn operator(request: &[i32], at: usize) -> u8 {
+    let n = number(request, at);
+    if n < 0 {
+        return 0;
+    }
+    if 255 < n {
+        return 0;
+    }
+    n as u8
 }
 
 // What a call wrote, and whether it left the buffers well.

@@ -9,12 +9,13 @@ use lib.ListN.{length}
 use Rattle.rules.specs.declared.Step.the-variants.{Done, Refused}
 use Rattle.rules.specs.declared.Refusal.{Refusal}
 use Rattle.rules.specs.declared.Refusal.the-variants.{MadeTooLarge}
-use Rattle.rules.specs.Lists.{same}
+use Rattle.rules.specs.Lists.{if, same}
 use Rattle.rules.specs.Refusals.{Verdict, given, refused, numberOf}
 use Rattle.rules.specs.Layout.{Layout}
 use Rattle.rules.proofs.Same.{same-true}
 use Rattle.rules.specs.Soundness.{Sound, DepsLow}
 use Rattle.rules.proofs.Made.{fewOr}
+use Rattle.tables.specs.Tables.{Only}
 use Rattle.tables.proofs.Only.{only-same}
 use Rattle.parts.specs.Parts.{windowSize, left, right, target, denseAt, rankAt, layoutAt, Window}
 use Rattle.parts.proofs.Holds.{rank-is, dense-most}
@@ -38,18 +39,23 @@ module _ {rule : Layout → Layout → Verdict Layout} {s : List ℤ} (q : Windo
   pub combine-refused : (r : Refusal) → rule (layoutAt left s) (layoutAt right s) ≡ refused (numberOf r) → Combined rule s s (Refused r)
   combine-refused r e = record { says = record { is = sym e; holds = λ d. absurd (never-done d) }; only = only-same target windowSize s }
 
-  -- a layout was made, or is too large
-  pub combine-made : Makes rule → {l : Layout} {t : List ℤ} → rule (layoutAt left s) (layoutAt right s) ≡ fewOr l → {few : Bool} → Made l s t few → Combined rule s t (madeStep few)
-  combine-made makes {l} {t} e {few = true} m =
-      let is : rule (layoutAt left s) (layoutAt right s) ≡ given (layoutAt target t) = e ∙ rw (← m .verdict, m .layout refl) in
+  -- a layout was made, or a list of it or on the way to it is too long
+  pub combine-told : Makes rule → {l : Layout} {t : List ℤ} {few : Bool} → rule (layoutAt left s) (layoutAt right s) ≡ if few (given l) (refused 13) →
+      (few ≡ true → layoutAt target t ≡ l) → Only target windowSize s t → Combined rule s t (madeStep few)
+  combine-told makes {l} {t} {few = true} e f o =
+      let is : rule (layoutAt left s) (layoutAt right s) ≡ given (layoutAt target t) = e ∙ rw (f refl) in
       record {
         says = record {
           is = sym is;
-          holds = λ _. record { inside = omega (arith, q .room, m .only .size); sound = makes .sound (layoutAt left s) (layoutAt right s) is; low = makes .low (q .first .low) (q .second .low) is };
+          holds = λ _. record { inside = omega (arith, q .room, o .size); sound = makes .sound (layoutAt left s) (layoutAt right s) is; low = makes .low (q .first .low) (q .second .low) is };
         };
-        only = m .only;
+        only = o;
       }
-  combine-made makes e {few = false} m = record { says = record { is = sym (e ∙ (unfold numberOf in rw (← m .verdict))); holds = λ d. absurd (never-done d) }; only = m .only }
+  combine-told makes {few = false} e f o = record { says = record { is = unfold numberOf in sym e; holds = λ d. absurd (never-done d) }; only = o }
+
+  -- a layout was made, or is too large
+  pub combine-made : Makes rule → {l : Layout} {t : List ℤ} → rule (layoutAt left s) (layoutAt right s) ≡ fewOr l → {few : Bool} → Made l s t few → Combined rule s t (madeStep few)
+  combine-made makes e m = combine-told makes (e ∙ rw (← m .verdict)) (m .layout) (m .only)
 
 -- ---- layouts of one shape
 

@@ -6,5 +6,6 @@ pub mod Heads
 pub mod Merged
 pub mod Completing
 pub mod Combining
+pub mod Both
 pub mod Joining
 pub mod United

@@ -23,8 +23,8 @@ use Rattle.parts.specs.Parts.{left, right, denseAt, rankAt, layoutAt, Window}
 use Rattle.parts.proofs.Holds.{rank-is}
 use Rattle.combine.specs.declared.window.Way.{Way}
 use Rattle.combine.specs.declared.window.Way.the-variants.{Dense, Diagonals, Rows}
-use Rattle.combine.specs.Window.{wayOf, RowsAsked, mergedStates, mergedInputs, shaped, madeStep, Made, Combined}
-use Rattle.combine.specs.Uniting.{JoinAsked, unitedRows}
+use Rattle.combine.specs.Window.{wayOf, RowsAsked, BothAsked, mergedStates, mergedInputs, shaped, madeStep, Made, Combined}
+use Rattle.combine.specs.Uniting.{unitedRows}
 use Rattle.combine.proofs.Ways.{Told, told-dense, told-diagonals, told-rows, way-told, diagonal-first}
 use Rattle.combine.proofs.Combining.{Makes, combine-refused, combine-made, shapes-same}
 
@@ -72,7 +72,7 @@ module _ {s : List ℤ} (q : RowsAsked s) where
           (unfold numberOf in united-listing (q .window .first .sound) (q .window .second .sound) (q .shapes) rows-told (sym bars-is ∙ bars-not) (rw (← d-is) (sym lists-is ∙ f)))
 
       module _ (lists-not : lists ≡ false) where
-        pub ask-join : JoinAsked d s
+        pub ask-join : BothAsked d s
         ask-join = record { asked = q; lower = d-is; expand = sym bars-is ∙ bars-not; list-none = sym lists-is ∙ lists-not }
 
         pub rows-made : {t : List ℤ} {few : Bool} {step : Step} → Made (unitedRows a b) s t few → step ≡ madeStep few → Combined union s t step

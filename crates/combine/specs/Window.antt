@@ -1,6 +1,6 @@
 -- Two layouts in a window of parts: which way they are taken, and what is made of them in the target, by whatever rule.
 use mathlib.Core.Path.{_≡_}
-use mathlib.Core.Bool.{Bool, true, _&&_, _||_}
+use mathlib.Core.Bool.{Bool, true, false, _&&_, _||_}
 use mathlib.Core.List.{List}
 use Prim.Native.Nat.{ℕ, _+_, _-_, _≤_}
 use lib.IntN.{ℤ}
@@ -11,13 +11,14 @@ use Rattle.rules.specs.declared.Refusal.the-variants.{MadeTooLarge}
 use Rattle.rules.specs.Limits.{entryLimit}
 use Rattle.rules.specs.Lists.{if, same}
 use Rattle.rules.specs.Buffers.{part}
-use Rattle.rules.specs.RowsInOrder.{merge}
+use Rattle.rules.specs.RowsInOrder.{sorted, merge}
 use Rattle.rules.specs.Refusals.{Verdict}
 use Rattle.rules.specs.Layout.{Layout, isDense, few}
-use Rattle.rules.specs.Pairs.{fewOf, alikeDiagonals}
+use Rattle.rules.specs.Removal.{listsRow}
+use Rattle.rules.specs.Pairs.{lowered, lowerD, barsExpansion, fewOf, alikeDiagonals}
 use Rattle.cells.specs.View.{view}
-use Rattle.tables.specs.Tables.{tableAt, Only}
-use Rattle.parts.specs.Parts.{extentsFrom, rowsFrom, statesFrom, inputsFrom, windowSize, left, right, target, spare, kindAt, denseAt, rankAt, layoutAt, Window}
+use Rattle.tables.specs.Tables.{tableAt, Only, PairAsked}
+use Rattle.parts.specs.Parts.{extentsFrom, rowsFrom, statesFrom, inputsFrom, windowSize, left, right, target, spare, otherSpare, kindAt, denseAt, rankAt, layoutAt, Window}
 use Rattle.parts.specs.Answers.{Says}
 use Rattle.combine.specs.declared.window.Way.{Way}
 use Rattle.combine.specs.declared.window.Way.the-variants.{Dense, Diagonals, Rows}
@@ -57,7 +58,22 @@ pub record RowsAsked (s : List ℤ) : Type 0 where
   pub shapes : same (layoutAt left s .shape) (layoutAt right s .shape) ≡ true
   pub way : wayOf (layoutAt left s) (layoutAt right s) ≡ Rows
 
+-- the layouts are taken by their rows, with the smaller D; no diagonal bars it and no row would be listed too early
+pub record BothAsked (d : ℕ) (s : List ℤ) : Type 0 where
+  pub asked : RowsAsked s
+  pub lower : d ≡ lowerD (layoutAt left s) (layoutAt right s)
+  pub expand : (barsExpansion (layoutAt left s) || barsExpansion (layoutAt right s)) ≡ false
+  pub list-none : (listsRow (layoutAt left s) d || listsRow (layoutAt right s) d) ≡ false
+
 -- ---- what is made
+
+-- the rows of both stand in the spare room, lowered and in order, if neither has too many
+pub record BothLowered (d : ℕ) (s t : List ℤ) (r : Bool) : Type 0 where
+  pub verdict : r ≡ few (sorted (lowered (layoutAt left s) d .rows)) && few (sorted (lowered (layoutAt right s) d .rows))
+  pub first : r ≡ true → tableAt (spare + rowsFrom) (rankAt left s - d) t ≡ sorted (lowered (layoutAt left s) d .rows)
+  pub second : r ≡ true → tableAt (otherSpare + rowsFrom) (rankAt left s - d) t ≡ sorted (lowered (layoutAt right s) d .rows)
+  pub pair : r ≡ true → PairAsked (spare + rowsFrom) (otherSpare + rowsFrom) (target + rowsFrom) (rankAt left s - d) t
+  pub only : Only spare windowSize s t
 
 -- the head of the target
 pub record HeadMade (kind dense : ℕ) (s t : List ℤ) : Type 0 where

@@ -1,51 +1,41 @@
 // The union of the left and the right layout of a window.
 ghost use Rattle.rules.specs.Union.{union};
 ghost use Rattle.parts.specs.Parts.{left, right, layoutAt, Window};
-ghost use Rattle.combine.specs.Window.{RowsAsked, Made, Combined};
-ghost use Rattle.combine.specs.Uniting.{JoinAsked, RowsJoined, unitedRows};
+ghost use Rattle.combine.specs.Window.{RowsAsked, BothAsked, Made, Combined};
+ghost use Rattle.combine.specs.Uniting.{RowsJoined, unitedRows};
 use super::window::LEFT_DENSE;
 use super::window::LEFT_RANK;
+use super::window::OTHER_SPARE_ROWS;
+use super::window::SPARE_ROWS;
 use super::window::TARGET_ROWS;
 use super::window::Way;
 use super::window::complete;
 use super::window::complete_bare;
 use super::window::either_bars;
 use super::window::either_lists;
+use super::window::lower_both;
 use super::window::lower_dense;
 use super::window::made;
 use super::window::same_shapes;
 use super::window::way_of;
-use parts::LEFT;
-use parts::OTHER_SPARE;
-use parts::RIGHT;
-use parts::ROWS;
-use parts::SPARE;
 use rules::Refusal;
 use rules::Step;
 
-// Where the rows of both stand, lowered and in order.
-const SPARE_ROWS: usize = SPARE + ROWS;
-
-const OTHER_SPARE_ROWS: usize = OTHER_SPARE + ROWS;
-
 // The rows of both layouts, with D lowered to d, are joined in the target; false where they are too many.
 fn join_rows(window: &mut [i32], d: usize) -> bool
-    requires { ⌜ JoinAsked d (now window) ⌝ }
+    requires { ⌜ BothAsked d (now window) ⌝ }
     ensures { λ r. ⌜ RowsJoined d (now (window .entry)) (now (window .exit)) r ⌝ }
 {
-    let w = cells::get(window, LEFT_RANK) - d;
-    if !lowering::lower_into(window, LEFT, d, SPARE_ROWS) {
-        return false;
+    if lower_both(window, d) {
+        let w = cells::get(window, LEFT_RANK) - d;
+        return tables::merge_into(window, SPARE_ROWS, OTHER_SPARE_ROWS, TARGET_ROWS, w);
     }
-    if !lowering::lower_into(window, RIGHT, d, OTHER_SPARE_ROWS) {
-        return false;
-    }
-    tables::merge_into(window, SPARE_ROWS, OTHER_SPARE_ROWS, TARGET_ROWS, w)
+    false
 }
 
 // The rows of both layouts, with D lowered to d, become the union of both; false where a list of it is too long.
 fn join_layouts(window: &mut [i32], d: usize) -> bool
-    requires { ⌜ JoinAsked d (now window) ⌝ }
+    requires { ⌜ BothAsked d (now window) ⌝ }
     ensures { λ r. ⌜ Made (unitedRows (layoutAt left (now (window .entry))) (layoutAt right (now (window .entry)))) (now (window .entry)) (now (window .exit)) r ⌝ }
 {
     if join_rows(window, d) {

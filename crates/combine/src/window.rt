@@ -7,14 +7,16 @@ ghost use Rattle.rules.specs.Layout.{isDense};
 ghost use Rattle.rules.specs.Removal.{listsRow};
 ghost use Rattle.rules.specs.Pairs.{lowerD, barsExpansion, alikeDiagonals};
 ghost use Rattle.parts.specs.Parts.{left, right, layoutAt, Holds, Window};
-ghost use Rattle.combine.specs.Window.{wayOf, HeadAsked, DepsAsked, BareAsked, CompleteAsked, HeadMade, DepsMade, mergedStates, mergedInputs, shaped, Completed, Made, madeStep};
+ghost use Rattle.combine.specs.Window.{wayOf, HeadAsked, DepsAsked, BareAsked, CompleteAsked, HeadMade, DepsMade, mergedStates, mergedInputs, shaped, Completed, Made, madeStep, BothAsked, BothLowered};
 use parts::DENSE;
 use parts::EXTENTS;
 use parts::INPUTS;
 use parts::LEFT;
+use parts::OTHER_SPARE;
 use parts::RANK;
 use parts::RIGHT;
 use parts::ROWS;
+use parts::SPARE;
 use parts::STATES;
 use parts::TARGET;
 use rules::Refusal;
@@ -50,6 +52,11 @@ pub const TARGET_ROWS: usize = TARGET + ROWS;
 const TARGET_STATES: usize = TARGET + STATES;
 
 const TARGET_INPUTS: usize = TARGET + INPUTS;
+
+// Where the rows of both stand, lowered and in order.
+pub const SPARE_ROWS: usize = SPARE + ROWS;
+
+pub const OTHER_SPARE_ROWS: usize = OTHER_SPARE + ROWS;
 
 // Which way two layouts of one shape are taken.
 pub enum Way {
@@ -175,6 +182,17 @@ pub fn either_lists(window: &[i32], d: usize) -> bool
         return true;
     }
     lists_row(window, RIGHT, d)
+}
+
+// The rows of both layouts, with D lowered to d and in order, become tables in the spare room; false where one has too many.
+pub fn lower_both(window: &mut [i32], d: usize) -> bool
+    requires { ⌜ BothAsked d (now window) ⌝ }
+    ensures { λ r. ⌜ BothLowered d (now (window .entry)) (now (window .exit)) r ⌝ }
+{
+    if lowering::lower_into(window, LEFT, d, SPARE_ROWS) {
+        return lowering::lower_into(window, RIGHT, d, OTHER_SPARE_ROWS);
+    }
+    false
 }
 
 // A kind, a D and the extents of the left layout become the head of the target.

@@ -8,6 +8,8 @@ pub use form_calls::new_scalar;
 pub use form_calls::sparse;
 pub use form_calls::to_data_layout;
 pub use form_calls::to_dense;
+pub use list_calls::broadcast;
+pub use pair_calls::intersect;
 pub use pair_calls::union;
 pub use record_calls::eq_nonzeros;
 pub use record_calls::eq_nonzeros_and_deps;

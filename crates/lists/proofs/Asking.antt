@@ -172,6 +172,9 @@ count-few (pos n) = by (leb n listLimit) refl
     by false e = omega arith
 count-few (negsuc n) = omega arith
 
+pub few-listed : (n : ℤ) {m : ℕ} → m ≡ listCount n → m ≤ listLimit
+few-listed n e = rw e (count-few n)
+
 -- a rank that is not negative walks the blocks of a list
 pub blocks-listed : (n : ℤ) (rank : ℕ) (s : List ℤ) → blocksIn n (pos rank) s ≡ map (blockAt rank) (endToEnd (behindBlock rank) (listCount n) s)
 unfolding blocksIn

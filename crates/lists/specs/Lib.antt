@@ -1,3 +1,4 @@
 pub mod Places
 pub mod Asked
 pub mod Starts
+pub mod Records

@@ -9,7 +9,7 @@ use borrow.Author.Tests.{le-leb}
 use lib.Dec.{eqb·suc-zero}
 use lib.IntN.{ℤ, pos}
 use lib.ListN.{length, getD, take, drop, length-append, length-take, length-map, length-drop}
-use lib.Seq.{drop-drop, take-at}
+use lib.Seq.{drop-drop, take-at, drop-at, take-add}
 use Rattle.rules.specs.Limits.{productLimit}
 use Rattle.rules.specs.Lists.{keep, product}
 use Rattle.rules.specs.Buffers.{part, put}
@@ -77,7 +77,7 @@ module _ {at w rank : ℕ} {s : List ℤ} (a : Axes at w rank s) where
       front-length : length (take w (view row)) ≡ w
       front-length = let u = a .upto in let n = a .narrow in simp (length-take, view-length) (omega arith)
 
-      -- it is as long as before, and so are its first numbers
+      -- it is as long as before
       pub next-length : length next ≡ 5
       unfolding index
       next-length =
@@ -85,17 +85,33 @@ module _ {at w rank : ℕ} {s : List ℤ} (a : Axes at w rank s) where
           let n = a .narrow in
           sym (view-length next) ∙ rw written (simp (length-append, length-drop, view-length) (omega (arith, front-length, index-length)))
 
-      pub next-front : rowAt 0 w next ≡ rowAt 0 w row
-      unfolding part
+      whole : List ℕ
+      whole = take w (view row) ++ index
+
+      whole-length : length whole ≡ rank
+      unfolding whole index
+      whole-length = let u = a .upto in simp length-append (omega (arith, front-length, index-length))
+
+      split : view next ≡ whole ++ drop rank (view row)
+      unfolding whole index
+      split =
+          let u = a .upto in
+          let e : w + length index ≡ rank = omega (arith, index-length) in
+          written ∙ rw e (sym (append-assoc (take w (view row)) index (drop rank (view row))))
+
+      -- so are its first numbers and those from the rank on
+      pub next-front : take w (view next) ≡ take w (view row)
       next-front = rw written (take-at (take w (view row)) (index ++ drop (w + length index) (view row)) w front-length)
 
-      -- and behind them stands the index
-      pub next-row : rowAt 0 rank next ≡ rowAt 0 w row ++ getD (positions (lastAxes at w rank s)) number []
-      unfolding part index
-      next-row =
-          let u = a .upto in
-          let both : length (take w (view row) ++ index) ≡ rank = simp length-append (omega (arith, front-length, index-length)) in
-          rw (written, ← append-assoc (take w (view row)) index (drop (w + length index) (view row)), take-at (take w (view row) ++ index) (drop (w + length index) (view row)) rank both)
-          (ap (λ (l : List ℕ). take w (view row) ++ l) (unravel-position number (lastAxes at w rank s) h))
+      pub next-behind : drop rank (view next) ≡ drop rank (view row)
+      next-behind = rw split (drop-at whole (drop rank (view row)) rank whole-length)
+
+      -- and between them stands the index
+      pub next-row : (m : ℕ) → rowAt 0 (rank + m) next ≡ take w (view row) ++ (getD (positions (lastAxes at w rank s)) number [] ++ take m (drop rank (view row)))
+      unfolding part whole index
+      next-row m =
+          take-add rank m (view next)
+          ∙ rw (next-behind, split, take-at whole (drop rank (view row)) rank whole-length, ← unravel-position number (lastAxes at w rank s) h)
+          (append-assoc (take w (view row)) index (take m (drop rank (view row))))
 
 pub ruleset laws = (last-extents, last-product)

@@ -2,6 +2,7 @@
 pub mod LastAxes
 pub mod Taking
 pub mod RowTails
-pub mod FullRows
+pub mod AllTails
 pub mod Diagonals
 pub mod Listing
+pub mod LoweredDeps

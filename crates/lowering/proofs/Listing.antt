@@ -1,54 +1,80 @@
 -- `lower_into`: which rows it lists, by the kind and the D of the layout. Assumes nothing.
-use mathlib.Core.Path.{_≡_, sym, _∙_}
+use mathlib.Core.Path.{_≡_, refl, sym, ap, _∙_}
 use mathlib.Core.Bool.{Bool, true}
-use mathlib.Core.List.{List, []}
+use mathlib.Core.List.{List, [], _∷_, append-nil}
 use mathlib.Core.Logic.{inl, inr, ⊎-elim}
-use Prim.Native.Nat.{ℕ, _+_, _-_, _<_, _≤_}
+use Prim.Native.Nat.{ℕ, zero, suc, _+_, _-_, _<_, _≤_}
 use native.Mathlib.Nat.{add-zero}
 use native.Mathlib.Omega.{arith}
 use borrow.Author.Tests.{le-leb}
 use lib.IntN.{ℤ, pos}
-use lib.ListN.{length, getD, set}
-use Rattle.rules.specs.RowsInOrder.{sorted}
+use lib.ListN.{length, getD, set, drop}
+use lib.Seq.{take-all, drop-nil}
+use Rattle.rules.specs.Lists.{gather}
+use Rattle.rules.specs.RowsInOrder.{sorted, Each}
 use Rattle.rules.specs.Layout.{Layout}
-use Rattle.rules.specs.Removal.{fullRows}
+use Rattle.rules.specs.Removal.{positions, crossed, fullRows}
 use Rattle.rules.specs.Pairs.{lowered}
 use Rattle.rules.proofs.Soundness.{OneKind, is-dense, is-diagonal, is-sparse, one-kind}
+use Rattle.rules.proofs.Sets.{each-head, each-tail}
 use Rattle.rules.proofs.Sorting.{sorted-length}
 use Rattle.rules.proofs.Extents.{extent-limited}
 use Rattle.rules.proofs.Holding.{diagonal-rank}
 use Rattle.rules.proofs.Lowering.{expands-dense, diagonal-made, same-made, full-made, none-made}
 use Rattle.cells.specs.View.{view}
-use Rattle.tables.specs.Tables.{tableAt, Only, Ready, SortAsked, Sorted}
+use Rattle.tables.specs.Rows.{rowAt}
+use Rattle.tables.specs.Tables.{tableAt, roomEnd, Only, Ready, SortAsked, Sorted}
 use Rattle.tables.proofs.Rows.{row-number}
-use Rattle.tables.proofs.Only.{only-then, only-set, only-wider}
+use Rattle.tables.proofs.Only.{only-then, only-set, only-wider, row-outside, table-outside, fits-outside}
 use Rattle.tables.proofs.Tables.{table-length}
 use Rattle.tables.proofs.Made.{emptied, emptied-ready, sorted-ready}
-use Rattle.parts.specs.Parts.{kindAt, denseAt, rankAt, layoutAt}
-use Rattle.parts.proofs.Holds.{rank-most, rank-is, rows-fit, rank-outside, layout-outside, holds-outside}
-use Rattle.lowering.specs.Lowering.{Taken, FullAsked, DiagonalAsked, diagonalOf, LowerAsked, Listed}
+use Rattle.parts.specs.Parts.{kindAt, denseAt, rankAt, widthAt, layoutAt, Holds}
+use Rattle.parts.proofs.Holds.{rank-most, rank-is, shape-length, rows-few, rows-fit, rank-outside, layout-outside, holds-outside}
+use Rattle.lowering.specs.Lowering.{Axes, lastPositions, allTails, RowsAsked, Taken, DiagonalAsked, diagonalOf, LowerAsked, Listed}
 use Rattle.lowering.proofs.Taking.{taken-none}
 
 -- ---- a table that was emptied
 
-module _ {to : ℕ} (s : List ℤ) {t : List ℤ} (room : to + 513 ≤ length s) (e : t ≡ set s to (pos 0)) where
-  cleared-only : Only to (to + 513) s t
-  cleared-only = rw e (only-wider (only-set to (pos 0) s) to (to + 513) (omega arith) (omega arith))
+module _ {to : ℕ} (s : List ℤ) {t : List ℤ} (e : t ≡ set s to (pos 0)) where
+  pub cleared-only : (f : ℕ) → to + 1 ≤ f → Only to f s t
+  cleared-only f h = rw e (only-wider (only-set to (pos 0) s) to f (omega arith) h)
 
-  module _ {w : ℕ} (n : w ≤ 4) where
-    cleared-ready : Ready to w t
-    cleared-ready = rw e (emptied-ready to w s (omega arith))
+  module _ {w : ℕ} (room : roomEnd to w ≤ length s) where
+    pub cleared-ready : Ready to w t
+    cleared-ready = rw e (emptied-ready to w s room)
 
     -- what it takes is what is listed
-    cleared-listed : {rows : List (List ℕ)} {u : List ℤ} {r : Bool} → Taken to w rows t u r → Listed to w rows s u r
+    pub cleared-listed : {rows : List (List ℕ)} {u : List ℤ} {r : Bool} → Taken to w rows t u r → Listed to w rows s u r
     cleared-listed p =
-        let empty : tableAt to w t ≡ [] = rw e (emptied to w s (omega arith)) in
+        let empty : tableAt to w t ≡ [] = rw e (emptied to w s room) in
         record {
           verdict = rw empty at (p .verdict);
           table = λ h. rw empty at (p .table h);
           ready = p .ready;
-          only = only-then cleared-only (only-wider (p .only) to (to + 513) (omega arith) (omega arith));
+          only = only-then (cleared-only (roomEnd to w) (omega arith)) (p .only);
         }
+
+-- the axes of a layout
+pub layout-axes : {at rank w : ℕ} {s : List ℤ} → Holds at s → rank ≡ rankAt at s → w ≤ rank → Axes (at + 3) w rank s
+unfolding layoutAt
+layout-axes h e l =
+    let r = rank-most h in
+    record { room = omega (arith, h .inside); upto = l; narrow = omega arith; small = rw e (h .sound .sizes .product-most) }
+
+-- ---- rows with ends in them, where the rows end
+
+ended : (n : ℕ) (l : List ℕ) → length l ≤ n → drop n l ≡ []
+ended n [] h = drop-nil n
+ended zero (x ∷ l) h = absurd (omega arith)
+ended (suc n) (x ∷ l) h = ended n l (omega arith)
+
+-- each row has the ends behind it
+crossed-is : (w rank : ℕ) → w ≤ rank → (rows ends : List (List ℕ)) → Each (λ r. length r ≡ w) rows → allTails w rank rows ends ≡ crossed rows ends
+unfolding gather
+crossed-is w rank h [] ends f = refl
+crossed-is w rank h (r ∷ rows) ends f =
+    rw (crossed-is w rank h rows ends (each-tail f), take-all w r (omega (arith, each-head f)), ended rank r (omega (arith, each-head f)))
+    (simp append-nil)
 
 -- ---- the layout
 
@@ -92,11 +118,11 @@ module _ {at to d : ℕ} {s : List ℤ} (a : LowerAsked at to d s) where
     pub ask-diagonal : {t : List ℤ} → t ≡ set s to (pos 0) → DiagonalAsked to w extent t
     ask-diagonal e =
         let n : w ≤ 4 = omega (arith, rank-most (a .holds)) in
-        record { narrow = n; small = rw extent-is (extent-limited (a .holds .sound .sizes) 0); target = cleared-ready s (a .room) e n }
+        record { narrow = n; small = rw extent-is (extent-limited (a .holds .sound .sizes) 0); target = cleared-ready s e (omega (arith, a .room)) }
 
     pub diagonal-listed : {t u : List ℤ} {v : Bool} → t ≡ set s to (pos 0) → Taken to w (diagonalOf w extent) t u v →
         Listed to (rankAt at s - d) (lowered l d .rows) s u v
-    diagonal-listed e p = let n : w ≤ 4 = omega (arith, rank-most (a .holds)) in rw (rows-are, width) (cleared-listed s (a .room) e n p)
+    diagonal-listed e p = let n : w ≤ 4 = omega (arith, rank-most (a .holds)) in rw (rows-are, width) (cleared-listed s e (omega (arith, a .room)) p)
 
   -- ---- a sparse layout with that D
 
@@ -124,7 +150,7 @@ module _ {at to d : ℕ} {s : List ℤ} (a : LowerAsked at to d s) where
           verdict = sym (le-leb (length (sorted rows)) 128 (omega (arith, sorted-length rows, table-length (at + 7) (w - d) s, ask-sort .source .few)));
           table = λ _. p .table;
           ready = λ _. sorted-ready ask-sort p;
-          only = only-wider (p .only) to (to + 513) (omega arith) (omega arith);
+          only = p .only;
         })
 
   -- ---- a sparse layout with a larger D
@@ -134,29 +160,54 @@ module _ {at to d : ℕ} {s : List ℤ} (a : LowerAsked at to d s) where
     unfolding layoutAt
     above = omega (arith, a .lower)
 
+    room : {v : ℕ} → v ≤ rankAt at s → roomEnd to v ≤ length s
+    room h = let m = rank-most (a .holds) in omega (arith, a .room)
+
     -- which lists none, with dense axes left
     pub none-listed : 0 < d → Listed to (rankAt at s - d) (lowered l d .rows) s t true
     none-listed h =
-        let m : rankAt at s - d ≤ 4 = omega (arith, rank-most (a .holds)) in
-        rw (none-made l (sparse n) above h (a .lists-none)) (cleared-listed s (a .room) e m (taken-none (cleared-ready s (a .room) e m)))
+        let m : roomEnd to (rankAt at s - d) ≤ length s = room (omega arith) in
+        rw (none-made l (sparse n) above h (a .lists-none)) (cleared-listed s e m (taken-none (cleared-ready s e m)))
 
     -- or each row with every index of the dense axes, with none left
-    pub ask-full : FullAsked at to w t
-    ask-full =
-        let o = cleared-only s (a .room) e in
-        let m : w ≤ 4 = omega (arith, rank-most (a .holds)) in
-        record {
-          holds = holds-outside o (a .apart) (a .holds);
-          rank-is = r ∙ sym (rank-outside o (a .apart));
-          target = cleared-ready s (a .room) e m;
-          apart = a .apart;
-        }
+    only-cleared : Only to (to + 513) s t
+    only-cleared = cleared-only s e (to + 513) (omega arith)
 
-    pub full-listed : {u : List ℤ} {v : Bool} → d ≤ 0 → Taken to w (fullRows (layoutAt at t)) t u v →
-        Listed to (rankAt at s - d) (lowered l d .rows) s u v
-    full-listed h p =
-        let m : w ≤ 4 = omega (arith, rank-most (a .holds)) in
-        let zero : d ≡ 0 = omega arith in
-        let width : rankAt at s - d ≡ w = omega arith in
-        rw (full-made l (sparse n) above zero, width)
-        (cleared-listed s (a .room) e m (rw (layout-outside (cleared-only s (a .room) e) (a .apart) (a .holds)) at p))
+    rows-there : tableAt (at + 7) (widthAt at s) t ≡ tableAt (at + 7) (widthAt at s) s
+    rows-there =
+        let m = rank-most (a .holds) in
+        table-outside only-cleared (at + 7) (widthAt at s) (rows-few (a .holds)) (⊎-elim (λ l. inl (omega arith)) (λ l. inr (omega arith)) (a .apart))
+
+    axes-there : rowAt (at + 3) w t ≡ rowAt (at + 3) w s
+    axes-there =
+        let m = rank-most (a .holds) in
+        row-outside only-cleared (at + 3) w (⊎-elim (λ l. inl (omega arith)) (λ l. inr (omega arith)) (a .apart))
+
+    module _ {k : ℕ} (k-is : k ≡ denseAt at s) where
+      width-is : w - k ≡ widthAt at s
+      width-is = rw (r, k-is)
+
+      pub ask-full : RowsAsked (at + 7) (w - k) (at + 3) (w - k) w to w t
+      ask-full =
+          let held = holds-outside only-cleared (a .apart) (a .holds) in
+          let m : w ≤ 4 = omega (arith, rank-most (a .holds)) in
+          record {
+            rows = rw width-is (fits-outside only-cleared (rows-fit (a .holds)) (⊎-elim (λ l. inl (omega arith)) (λ l. inr (omega arith)) (a .apart)));
+            axes = layout-axes held (r ∙ sym (rank-outside only-cleared (a .apart))) (omega arith);
+            widths = record { front = omega arith; read-most = omega arith; width-is = omega arith };
+            target = cleared-ready s e (room (omega arith));
+            rows-apart = ⊎-elim (λ l. inl (omega arith)) (λ l. inr (omega arith)) (a .apart);
+            axes-apart = ⊎-elim (λ l. inl (omega arith)) (λ l. inr (omega arith)) (a .apart);
+          }
+
+      pub full-listed : {u : List ℤ} {v : Bool} → d ≤ 0 → Taken to w (allTails (w - k) w (tableAt (at + 7) (w - k) t) (lastPositions (at + 3) (w - k) w t)) t u v →
+          Listed to (rankAt at s - d) (lowered l d .rows) s u v
+      unfolding layoutAt
+      full-listed h p =
+          let zero : d ≡ 0 = omega arith in
+          let width : rankAt at s - d ≡ w = omega arith in
+          let lengths : Each (λ r. length r ≡ widthAt at s) (tableAt (at + 7) (widthAt at s) s) = rw (shape-length (a .holds)) at (a .holds .sound .form .row-lengths) in
+          let all : allTails (w - k) w (tableAt (at + 7) (w - k) t) (lastPositions (at + 3) (w - k) w t) ≡ fullRows l =
+          rw (axes-there, width-is, rows-there)
+          (crossed-is (widthAt at s) w (omega arith) (tableAt (at + 7) (widthAt at s) s) (positions (drop (widthAt at s) (rowAt (at + 3) w s))) lengths ∙ rw (r, shape-length (a .holds))) in
+          rw (full-made l (sparse n) above zero, width) (cleared-listed s e (room (omega arith)) (rw all at p))

@@ -1,12 +1,12 @@
-// The rows of a layout in a part of the working slice, with a smaller D, put in order into a table of the slice.
+// The rows and the dependencies of a layout in a part of the working slice, with a smaller D, put in order into a table of the slice.
 ghost use mathlib.Core.Path.{_≡_};
-ghost use Prim.Native.Nat.{_-_};
+ghost use Prim.Native.Nat.{_+_, _-_};
 ghost use Rattle.rules.specs.Lists.{product as productOf};
-ghost use Rattle.rules.specs.Removal.{fullRows};
 ghost use Rattle.rules.specs.Pairs.{lowered};
 ghost use Rattle.tables.specs.Rows.{rowAt};
-ghost use Rattle.parts.specs.Parts.{rankAt, layoutAt};
-ghost use Rattle.lowering.specs.Lowering.{Axes, lastAxes, withTails, RowAsked, Taken, FullAsked, DiagonalAsked, diagonalOf, LowerAsked, Listed};
+ghost use Rattle.tables.specs.Tables.{tableAt};
+ghost use Rattle.parts.specs.Parts.{rankAt, layoutAt, Holds};
+ghost use Rattle.lowering.specs.Lowering.{Axes, lastAxes, lastPositions, withTails, allTails, RowAsked, RowsAsked, Taken, DiagonalAsked, diagonalOf, LowerAsked, Listed, removesAxes, loweredDeps, DepsAsked};
 
 // The product of the extents from axis w on, of the shape of `rank` extents at a place.
 pub fn product(s: &[i32], at: usize, w: usize, rank: usize) -> usize
@@ -16,24 +16,27 @@ pub fn product(s: &[i32], at: usize, w: usize, rank: usize) -> usize
     axes::product(s, at + w, rank - w)
 }
 
-// The row at a place, with each index of the last axes behind it, is put into the table; false where that makes too many rows.
+// The row of so many numbers at a place, with each index of the last axes in place of its numbers from w up to the rank, is put into a table
+// of rows of a width; false where that makes too many rows.
 pub fn list_row(
     s: &mut [i32],
     from: usize,
+    read: usize,
     extents: usize,
     w: usize,
     rank: usize,
     size: usize,
     to: usize,
+    width: usize,
 ) -> bool
-    requires { ⌜ RowAsked from extents w rank size to (now s) ⌝ }
-    ensures { λ r. ⌜ Taken to rank (withTails (rowAt from w (now (s .entry))) (lastAxes extents w rank (now (s .entry)))) (now (s .entry)) (now (s .exit)) r ⌝ }
+    requires { ⌜ RowAsked from read extents w rank size to width (now s) ⌝ }
+    ensures { λ r. ⌜ Taken to width (withTails w rank (rowAt from read (now (s .entry))) (lastPositions extents w rank (now (s .entry)))) (now (s .entry)) (now (s .exit)) r ⌝ }
 {
-    let mut row = tables::read_row(s, from, w);
+    let mut row = tables::read_row(s, from, read);
     let mut number = 0;
     while number < size {
         axes::unravel_into(number, s, extents + w, rank - w, &mut row, w);
-        if !tables::put_row(s, to, rank, &row, 0) {
+        if !tables::put_row(s, to, width, &row, 0) {
             return false;
         }
         number += 1;
@@ -41,24 +44,34 @@ pub fn list_row(
     true
 }
 
-// Each row of the layout, with every index of the dense axes behind it, is put into the table; false where that makes too many rows.
-pub fn list_full(s: &mut [i32], at: usize, rank: usize, to: usize) -> bool
-    requires { ⌜ FullAsked at to rank (now s) ⌝ }
-    ensures { λ r. ⌜ Taken to rank (fullRows (layoutAt at (now (s .entry)))) (now (s .entry)) (now (s .exit)) r ⌝ }
+// The same of each row of a table.
+pub fn list_rows(
+    s: &mut [i32],
+    from: usize,
+    read: usize,
+    extents: usize,
+    w: usize,
+    rank: usize,
+    to: usize,
+    width: usize,
+) -> bool
+    requires { ⌜ RowsAsked from read extents w rank to width (now s) ⌝ }
+    ensures { λ r. ⌜ Taken to width (allTails w rank (tableAt from read (now (s .entry))) (lastPositions extents w rank (now (s .entry)))) (now (s .entry)) (now (s .exit)) r ⌝ }
 {
-    let w = rank - cells::get(s, at + parts::DENSE);
-    let count = cells::get(s, at + parts::ROWS);
-    let size = product(s, at + parts::EXTENTS, w, rank);
+    let count = cells::get(s, from);
+    let size = product(s, extents, w, rank);
     let mut i = 0;
     while i < count {
         if !list_row(
             s,
-            at + parts::FIRST_ROW + i * w,
-            at + parts::EXTENTS,
+            from + 1 + i * read,
+            read,
+            extents,
             w,
             rank,
             size,
             to,
+            width,
         ) {
             return false;
         }
@@ -95,7 +108,8 @@ pub fn lower_into(s: &mut [i32], at: usize, d: usize, to: usize) -> bool
         cells::store(s, to, 0);
         return list_diagonal(s, to, rank, extent);
     }
-    if cells::get(s, at + parts::DENSE) == d {
+    let dense = cells::get(s, at + parts::DENSE);
+    if dense == d {
         tables::sort_into(s, at + parts::ROWS, to, rank - d);
         return true;
     }
@@ -103,5 +117,51 @@ pub fn lower_into(s: &mut [i32], at: usize, d: usize, to: usize) -> bool
     if 0 < d {
         return true;
     }
-    list_full(s, at, rank, to)
+    let w = rank - dense;
+    list_rows(
+        s,
+        at + parts::ROWS,
+        w,
+        at + parts::EXTENTS,
+        w,
+        rank,
+        to,
+        rank,
+    )
+}
+
+// Whether the layout at a place loses dense axes where its D is lowered to d.
+pub fn removes_axes(s: &[i32], at: usize, d: usize) -> bool
+    requires { ⌜ Holds at (now s) ⌝ }
+    ensures { λ r. ⌜ r ≡ removesAxes (layoutAt at (now (s .entry))) d ⌝ }
+{
+    if cells::get(s, at) == 1 {
+        return false;
+    }
+    d < cells::get(s, at + parts::DENSE)
+}
+
+// One list of the dependencies of the layout at a place, with its D lowered to d, becomes a table, in order; false where they are too many.
+// Where no axis is removed they are copied: they stand in order.
+pub fn lower_deps_into(s: &mut [i32], at: usize, d: usize, from: usize, to: usize) -> bool
+    requires { ⌜ DepsAsked at d from to (now s) ⌝ }
+    ensures { λ r. ⌜ Listed to (rankAt at (now (s .entry)) + 1) (loweredDeps (layoutAt at (now (s .entry))) d (tableAt from (rankAt at (now (s .entry)) + 1) (now (s .entry)))) (now (s .entry)) (now (s .exit)) r ⌝ }
+{
+    let rank = cells::get(s, at + parts::RANK);
+    if removes_axes(s, at, d) {
+        let w = rank - (cells::get(s, at + parts::DENSE) - d);
+        cells::store(s, to, 0);
+        return list_rows(
+            s,
+            from,
+            rank + 1,
+            at + parts::EXTENTS,
+            w,
+            rank,
+            to,
+            rank + 1,
+        );
+    }
+    tables::sort_into(s, from, to, rank + 1);
+    true
 }

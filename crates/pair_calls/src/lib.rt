@@ -1,13 +1,23 @@
-// The public functions that make one layout of two, module 8: both records are loaded into the window, and a step combines them there.
+// The public functions that make one layout of two, modules 8 and 9: both records are loaded into the window, and a step combines them there.
 ghost use lib.ListN.{length};
 ghost use Rattle.rules.specs.Refusals.{inForm};
 ghost use Rattle.rules.specs.Layout.{encode};
 ghost use Rattle.rules.specs.Endings.{Ends};
 ghost use Rattle.rules.specs.Union.{unionCall};
+ghost use Rattle.rules.specs.Intersect.{intersectCall};
 use judging::Sizes;
+use rules::Head;
 use rules::Refusal;
 use rules::Walk;
 use rules::Written;
+
+// Whether the rows of two sound records increase.
+fn both_ordered(left: &[i32], first: Head, right: &[i32], second: Head) -> bool {
+    if records::rows_ordered(left, first) {
+        return records::rows_ordered(right, second);
+    }
+    false
+}
 
 // The union of two records goes to the result.
 pub fn union(left: &[i32], right: &[i32], result: &mut [i32], work: &mut [i32]) -> Written
@@ -25,5 +35,27 @@ pub fn union(left: &[i32], right: &[i32], result: &mut [i32], work: &mut [i32]) 
     };
     parts::load_pair(left, first, right, second, &mut work[0..parts::WINDOW]);
     let step = combine::union_in(&mut work[0..parts::WINDOW]);
+    parts::finish(step, work, parts::TARGET, result)
+}
+
+// The intersection of two ordered records goes to the result.
+pub fn intersect(left: &[i32], right: &[i32], result: &mut [i32], work: &mut [i32]) -> Written
+    ensures { λ r. ⌜ Ends (inForm encode (intersectCall (now (left .entry)) (now (right .entry)) (length (now (result .entry))) (length (now (work .entry))))) (now (result .entry)) (now (work .entry)) r (now (result .exit)) (now (work .exit)) ⌝ }
+{
+    let over = judging::either(records::over_record(left), records::over_record(right));
+    if let Sizes::Refused(why) = judging::judge_sizes(over, result.len(), work.len()) {
+        return Written::Refused(why);
+    }
+    let Walk::To(first) = records::sound_head(left) else {
+        return parts::refuse(Refusal::Unsound, work);
+    };
+    let Walk::To(second) = records::sound_head(right) else {
+        return parts::refuse(Refusal::Unsound, work);
+    };
+    if !both_ordered(left, first, right, second) {
+        return parts::refuse(Refusal::Unordered, work);
+    }
+    parts::load_pair(left, first, right, second, &mut work[0..parts::WINDOW]);
+    let step = intersecting::intersect_in(&mut work[0..parts::WINDOW]);
     parts::finish(step, work, parts::TARGET, result)
 }

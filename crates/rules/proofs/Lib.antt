@@ -18,9 +18,10 @@
 --     Piles                                                        the pile: any exchanges keep its counts
 --     Slots, PileRecords, RecordPiles                              the same of records in the slots of a slice
 --     PileByHand                                                   a pile exchanged by hand
+--     Giving, Unchanged, Folding, BroadcastEnds, BroadcastHolds    a broadcast: what is stretched, folded in order, its end, and what it holds
 --     Determined                                                   two outcomes that a contract allows are equal
 --     WorkedByHand, Examples                                       the table, and examples of every operation
---     Refusing, RefusedWith, Never14                               which numbers are given, and that 14 never is
+--     Refusing, RefusedWith, BroadcastRefused, Never14             which numbers are given, and that 14 never is
 pub mod Order
 pub mod Same
 pub mod Sets
@@ -85,9 +86,15 @@ pub mod RecordPiles
 pub mod PileByHand
 pub mod ContractedHolds
 pub mod PermutedHolds
+pub mod Giving
+pub mod Unchanged
+pub mod Folding
+pub mod BroadcastEnds
+pub mod BroadcastHolds
 pub mod Determined
 pub mod WorkedByHand
 pub mod Refusing
 pub mod RefusedWith
+pub mod BroadcastRefused
 pub mod Never14
 mod Examples

@@ -1,3 +1,2 @@
 -- Laws that the proofs of this crate's functions cite.
-pub mod Tuples
 pub mod Listed

@@ -1,4 +1,4 @@
--- `list_row`: at each turn the row with the first indices behind it is in the table.
+-- `list_row`: at each turn the row with the first indices in it is in the table.
 use Prim.Native.Nat.{_-_}
 use borrow.Author.Tests.{not-true, not-false}
 use borrow.Author.Needs.{needs}
@@ -7,10 +7,10 @@ use Rattle.lowering.proofs.list_row.Statement.{statement}
 use Rattle.lowering.proofs.list_row.Tie as tie
 
 abbrev Inv-loop : tie.InvT-loop
-Inv-loop s₀ from extents w rank size to row₀ number₀ s row number = RowTails from extents w rank size to number row s₀ s
+Inv-loop s₀ from read extents w rank size to width row₀ number₀ s row number = RowTails from read extents w rank size to width number row s₀ s
 
 abbrev μ-loop : tie.MeasureT-loop
-μ-loop s₀ from extents w rank size to row₀ number₀ s row number = size - number
+μ-loop s₀ from read extents w rank size to width row₀ number₀ s row number = size - number
 
 read-row-requires : tie.Need-read-row-requires Inv-loop μ-loop
 read-row-requires c κs = search (needs, laws)

@@ -99,30 +99,41 @@ returns-3 c =
     let r = k .before .before in
     none-listed (r .before .before .pre) (r .get .ensures .0) (λ e. i .if1 .left (k .get2 .ensures .0 ∙ e)) (λ e. j .if2 .left (d .get4 .ensures .0 ∙ e)) (st .store2 .ensures) (c .if3 .taken)
 
-list-full-requires : tie.Need-list-full-requires
-list-full-requires c κs =
-    let st = c .before .before .before in
-    let j = st .before .before in
-    let d = j .before in
-    let i = d .before .before in
-    let k = i .before in
-    let r = k .before .before in
-    ask-full (r .before .before .pre) (r .get .ensures .0) (λ e. i .if1 .left (k .get2 .ensures .0 ∙ e)) (λ e. j .if2 .left (d .get4 .ensures .0 ∙ e)) (st .store2 .ensures)
+sub-w : tie.Need-sub-w
+sub-w c = let b = c .before .before .before .before .before .before .before .before .before .before .before .before in omega (arith, dense-most (b .pre .holds))
+
+add-list-rows : tie.Need-add-list-rows
+add-list-rows c = search needs
+
+add-list-rows-2 : tie.Need-add-list-rows-2
+add-list-rows-2 c = search needs
+
+list-rows-requires : tie.Need-list-rows-requires
+list-rows-requires c κs =
+    let s2 = c .before .before .before in
+    let i2 = s2 .before .before in
+    let g4 = i2 .before in
+    let i1 = g4 .before .before in
+    let g2 = i1 .before in
+    let g = g2 .before .before in
+    let b = g .before .before in
+    ask-full (b .pre) (g .get .ensures .0) (λ e. i1 .if1 .left (g2 .get2 .ensures .0 ∙ e)) (λ e. i2 .if2 .left (g4 .get4 .ensures .0 ∙ e)) (s2 .store2 .ensures) (g4 .get4 .ensures .0)
 
 same-length-4 : tie.Need-same-length-4
 same-length-4 c = search needs
 
 returns-4 : tie.Need-returns-4
 returns-4 c =
-    let p = c .before in
-    let h = p .before .before in
-    let st = h .before .before in
-    let j = st .before .before in
-    let d = j .before in
-    let i = d .before .before in
-    let k = i .before in
-    let r = k .before .before in
-    full-listed (r .before .before .pre) (r .get .ensures .0) (λ e. i .if1 .left (k .get2 .ensures .0 ∙ e)) (λ e. j .if2 .left (d .get4 .ensures .0 ∙ e)) (st .store2 .ensures) (h .if3 .left) (p .list-full .ensures)
+    let lr = c .before in
+    let i3 = lr .before .before in
+    let s2 = i3 .before .before in
+    let i2 = s2 .before .before in
+    let g4 = i2 .before in
+    let i1 = g4 .before .before in
+    let g2 = i1 .before in
+    let g = g2 .before .before in
+    let b = g .before .before in
+    full-listed (b .pre) (g .get .ensures .0) (λ e. i1 .if1 .left (g2 .get2 .ensures .0 ∙ e)) (λ e. i2 .if2 .left (g4 .get4 .ensures .0 ∙ e)) (s2 .store2 .ensures) (g4 .get4 .ensures .0) (i3 .if3 .left) (lr .list-rows .ensures)
 
 pub lower-into-spec : {M : Type 1} → statement M
 lower-into-spec =
@@ -147,6 +158,9 @@ lower-into-spec =
     store-requires-2
     same-length-3
     returns-3
-    list-full-requires
+    sub-w
+    add-list-rows
+    add-list-rows-2
+    list-rows-requires
     same-length-4
     returns-4)

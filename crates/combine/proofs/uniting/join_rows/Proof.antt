@@ -1,81 +1,60 @@
--- `join_rows`: the rows of each are lowered, and then merged.
+-- `join_rows`: the rows of both are lowered, and then merged.
 use native.Mathlib.Omega.{arith}
-use borrow.Author.Tests.{not-true, not-false}
+use Rattle.combine.proofs.Joining.{lowered-stop, lower-there, ask-merge, rows-joined}
 use borrow.Author.Needs.{needs}
-use Rattle.combine.proofs.Joining.{lower-rank, ask-first, first-stop, ask-second, second-stop, ask-merge, rows-joined}
 use Rattle.combine.proofs.uniting.join_rows.Statement.{statement}
 use Rattle.combine.proofs.uniting.join_rows.Tie as tie
+
+lower-both-requires : tie.Need-lower-both-requires
+lower-both-requires c κs = search needs
 
 get-requires : tie.Need-get-requires
 get-requires c κs = search needs
 
 sub-w : tie.Need-sub-w
-sub-w c = omega (arith, lower-rank (c .before .before .pre))
+sub-w c =
+    let lb = c .before .before .before .before in
+    let b = lb .before .before in
+    omega (arith, lower-there (b .pre) (lb .lower-both .ensures) (c .get .ensures .0))
 
-lower-into-requires : tie.Need-lower-into-requires
-lower-into-requires c κs = ask-first (c .before .before .before .pre)
+merge-into-requires : tie.Need-merge-into-requires
+merge-into-requires c κs =
+    let g = c .before in
+    let i1 = g .before .before in
+    let lb = i1 .before .before in
+    let b = lb .before .before in
+    ask-merge (b .pre) (lb .lower-both .ensures) (g .get .ensures .0) (i1 .if1 .taken)
 
 same-length : tie.Need-same-length
 same-length c = search needs
 
 returns : tie.Need-returns
 returns c =
-    let x = c .before .before in
-    let g = x .before .before in
-    first-stop (g .before .before .pre) (x .lower-into .ensures) (not-true (x .lower-into .result) (c .if1 .taken))
-
-lower-into-requires-2 : tie.Need-lower-into-requires-2
-lower-into-requires-2 c κs =
-    let x = c .before .before .before in
-    let g = x .before .before in
-    ask-second (g .before .before .pre) (x .lower-into .ensures)
+    let mi = c .before in
+    let g = mi .before .before in
+    let i1 = g .before .before in
+    let lb = i1 .before .before in
+    let b = lb .before .before in
+    rows-joined (b .pre) (lb .lower-both .ensures) (g .get .ensures .0) (i1 .if1 .taken) (mi .merge-into .ensures)
 
 same-length-2 : tie.Need-same-length-2
 same-length-2 c = search needs
 
 returns-2 : tie.Need-returns-2
 returns-2 c =
-    let y = c .before .before in
-    let f = y .before .before in
-    let x = f .before .before in
-    let g = x .before .before in
-    second-stop (g .before .before .pre) (x .lower-into .ensures) (not-false (x .lower-into .result) (f .if1 .left)) (y .lower-into2 .ensures) (not-true (y .lower-into2 .result) (c .if2 .taken))
-
-merge-into-requires : tie.Need-merge-into-requires
-merge-into-requires c κs =
-    let h = c .before in
-    let y = h .before .before in
-    let f = y .before .before in
-    let x = f .before .before in
-    let g = x .before .before in
-    ask-merge (g .before .before .pre) (x .lower-into .ensures) (not-false (x .lower-into .result) (f .if1 .left)) (y .lower-into2 .ensures) (g .get .ensures .0) (not-false (y .lower-into2 .result) (h .if2 .left))
-
-same-length-3 : tie.Need-same-length-3
-same-length-3 c = search needs
-
-returns-3 : tie.Need-returns-3
-returns-3 c =
-    let j = c .before in
-    let h = j .before .before in
-    let y = h .before .before in
-    let f = y .before .before in
-    let x = f .before .before in
-    let g = x .before .before in
-    rows-joined (g .before .before .pre) (x .lower-into .ensures) (not-false (x .lower-into .result) (f .if1 .left)) (y .lower-into2 .ensures) (g .get .ensures .0) (not-false (y .lower-into2 .result) (h .if2 .left))
-    (j .merge-into .ensures)
+    let lb = c .before .before in
+    let b = lb .before .before in
+    lowered-stop (b .pre) (lb .lower-both .ensures) (c .if1 .left)
 
 pub join-rows-spec : {M : Type 1} → statement M
 join-rows-spec =
     tie.close
     (tie.spec
+    lower-both-requires
     get-requires
     sub-w
-    lower-into-requires
+    merge-into-requires
     same-length
     returns
-    lower-into-requires-2
     same-length-2
-    returns-2
-    merge-into-requires
-    same-length-3
-    returns-3)
+    returns-2)

@@ -12,9 +12,8 @@ use Rattle.rules.specs.Refusals.{numberOf}
 use Rattle.rules.specs.Shapes.{commonShape, shapesAgree, broadcastShapes}
 use Rattle.lists.specs.Asked.{shapesAt}
 use Rattle.lists.proofs.Common.{common-low}
+use Rattle.lists.proofs.ByValue.{tuple-same, tuple-given, none-listed, common-within, common-length}
 use Rattle.judging.proofs.Judged.{judged, told-not-true, told-not-false}
-use Rattle.shape_calls.proofs.Listed.{none-listed, common-within, common-length}
-use Rattle.shape_calls.proofs.Tuples.{tuple-same, tuple-given}
 use Rattle.shape_calls.proofs.common_shape.agreed_shape.Statement.{statement}
 use Rattle.shape_calls.proofs.common_shape.agreed_shape.Tie as tie
 

@@ -10,10 +10,11 @@ use Rattle.rules.specs.Refusals.{numberOf}
 use Rattle.rules.specs.Shapes.{broadcastShapesCall}
 use Rattle.shapes.specs.Judged.{Judged}
 use Rattle.lists.specs.Places.{EachAt}
+use Rattle.lists.proofs.Asking.{few-listed}
 use Rattle.lists.proofs.Common.{judged-each}
 use Rattle.judging.proofs.Judged.{judged, told-true, told-false, told-not-true, told-not-false}
-use Rattle.shape_calls.proofs.Listed.{by-count, few-listed, over-listed}
-use Rattle.shape_calls.proofs.Tuples.{tuple-same}
+use Rattle.shape_calls.proofs.Listed.{by-count, over-listed}
+use Rattle.lists.proofs.ByValue.{tuple-same}
 use Rattle.shape_calls.proofs.common_shape.broadcast_shapes.Statement.{statement}
 use Rattle.shape_calls.proofs.common_shape.broadcast_shapes.Tie as tie
 

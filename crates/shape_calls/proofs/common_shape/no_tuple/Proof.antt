@@ -1,5 +1,5 @@
 -- `no_tuple`: zeros alone.
-use Rattle.shape_calls.proofs.Tuples.{tuple-zeros}
+use Rattle.lists.proofs.ByValue.{tuple-zeros}
 use Rattle.shape_calls.proofs.common_shape.no_tuple.Statement.{statement}
 use Rattle.shape_calls.proofs.common_shape.no_tuple.Tie as tie
 

@@ -5,7 +5,7 @@ use Rattle.rules.specs.Positions.{unravelIndex}
 use Rattle.rules.specs.Refusals.{numberOf}
 use Rattle.axes.proofs.Indices.{unravel-length}
 use Rattle.judging.proofs.Judged.{judged, told-true, told-false}
-use Rattle.shape_calls.proofs.Tuples.{tuple-same, tuple-given}
+use Rattle.lists.proofs.ByValue.{tuple-same, tuple-given}
 use Rattle.shape_calls.proofs.positions.index_of.Statement.{statement}
 use Rattle.shape_calls.proofs.positions.index_of.Tie as tie
 

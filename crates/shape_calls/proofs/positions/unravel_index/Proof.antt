@@ -12,7 +12,7 @@ use Rattle.shapes.proofs.Reading.{handed-over, as-natural, sign-natural, sign-n
 use Rattle.shapes.specs.Judged.{Judged}
 use Rattle.judging.proofs.Judged.{judged, told-true, told-not-true}
 use Rattle.judging.proofs.Required.{shape-judged}
-use Rattle.shape_calls.proofs.Tuples.{tuple-same}
+use Rattle.lists.proofs.ByValue.{tuple-same}
 use Rattle.shape_calls.proofs.positions.unravel_index.Statement.{statement}
 use Rattle.shape_calls.proofs.positions.unravel_index.Tie as tie
 

@@ -1,45 +1,26 @@
--- `list_full`: at each turn the first i rows, each with every index behind it, are in the table.
+-- `list_rows`: at each turn the first i rows, each with every index in it, are in the table.
 use Prim.Native.Nat.{_-_}
 use native.Mathlib.Omega.{arith}
 use borrow.Author.Needs.{needs}
 use borrow.Author.Tests.{not-true, not-false}
-use Rattle.parts.proofs.Holds.{dense-most}
-use Rattle.lowering.proofs.FullRows.{laws, Full, full-axes, start, row-ended, ask-row, turn, stop}
-use Rattle.lowering.proofs.list_full.Statement.{statement}
-use Rattle.lowering.proofs.list_full.Tie as tie
+use Rattle.lowering.proofs.AllTails.{laws, AllTails, start, row-ended, ask-row, turn, stop}
+use Rattle.lowering.proofs.list_rows.Statement.{statement}
+use Rattle.lowering.proofs.list_rows.Tie as tie
 
 abbrev Inv-loop : tie.InvT-loop
-Inv-loop s₀ at rank to w count size i₀ s i = Full at to rank w count size i s₀ s
+Inv-loop s₀ from read extents w rank to width count size i₀ s i = AllTails from read extents w rank to width count size i s₀ s
 
 abbrev μ-loop : tie.MeasureT-loop
-μ-loop s₀ at rank to w count size i₀ s i = count - i
-
-add-get : tie.Need-add-get Inv-loop μ-loop
-add-get c = search (needs, laws)
+μ-loop s₀ from read extents w rank to width count size i₀ s i = count - i
 
 get-requires : tie.Need-get-requires Inv-loop μ-loop
 get-requires c κs = search (needs, laws)
 
-sub-w : tie.Need-sub-w Inv-loop μ-loop
-sub-w c = let p = c .before .before .pre in omega (arith, dense-most (p .holds), p .rank-is)
-
-add-get-2 : tie.Need-add-get-2 Inv-loop μ-loop
-add-get-2 c = search (needs, laws)
-
-get-requires-2 : tie.Need-get-requires-2 Inv-loop μ-loop
-get-requires-2 c κs = search (needs, laws)
-
-add-product : tie.Need-add-product Inv-loop μ-loop
-add-product c = search (needs, laws)
-
 product-requires : tie.Need-product-requires Inv-loop μ-loop
-product-requires c κs = full-axes (c .before .before .before .before .before .pre) (omega arith)
+product-requires c κs = search (needs, laws)
 
 loop-holds : tie.Need-loop-holds Inv-loop μ-loop
-loop-holds c =
-    let n = c .before .before in
-    let d = n .before .before in
-    start (d .before .before .pre) (d .get .ensures .0) (n .get2 .ensures .0) (c .product .ensures)
+loop-holds c = start (c .before .before .before .before .pre) (c .before .before .get .ensures .0) (c .product .ensures)
 
 add-list-row : tie.Need-add-list-row Inv-loop μ-loop
 add-list-row c = let i = c .before in omega (arith, row-ended (i .before .loop .inv) (i .loop-test .taken))
@@ -49,9 +30,6 @@ mul-list-row c = let i = c .before in omega (arith, row-ended (i .before .loop .
 
 add-list-row-2 : tie.Need-add-list-row-2 Inv-loop μ-loop
 add-list-row-2 c = let i = c .before in omega (arith, row-ended (i .before .loop .inv) (i .loop-test .taken))
-
-add-list-row-3 : tie.Need-add-list-row-3 Inv-loop μ-loop
-add-list-row-3 c = let i = c .before in omega (arith, row-ended (i .before .loop .inv) (i .loop-test .taken))
 
 list-row-requires : tie.Need-list-row-requires Inv-loop μ-loop
 list-row-requires c κs = let i = c .before in ask-row (i .before .loop .inv) (i .loop-test .taken)
@@ -83,24 +61,18 @@ same-length-2 c = search (needs, laws)
 returns-2 : tie.Need-returns-2 Inv-loop μ-loop
 returns-2 c = search (needs, laws)
 
-pub list-full-spec : {M : Type 1} → statement M
-list-full-spec =
+pub list-rows-spec : {M : Type 1} → statement M
+list-rows-spec =
     tie.close
     (tie.spec
     Inv-loop
     μ-loop
-    add-get
     get-requires
-    sub-w
-    add-get-2
-    get-requires-2
-    add-product
     product-requires
     loop-holds
     add-list-row
     mul-list-row
     add-list-row-2
-    add-list-row-3
     list-row-requires
     same-length
     returns

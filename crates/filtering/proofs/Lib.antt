@@ -1,0 +1,3 @@
+-- The laws that the proofs of filtering share.
+pub mod Held
+pub mod Keeping

@@ -1,0 +1,2 @@
+-- The definitions that the contracts of filtering cite.
+pub mod Filtering

@@ -1,0 +1,2 @@
+-- The definitions that the contracts of intersecting cite.
+pub mod Intersecting

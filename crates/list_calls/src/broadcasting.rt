@@ -1,0 +1,61 @@
+// Module 12, `broadcast`: layouts stretched to their common shape and folded by an operator.
+ghost use mathlib.Core.Path.{_≡_};
+ghost use lib.ListN.{length};
+ghost use Rattle.rules.specs.Lists.{any};
+ghost use Rattle.rules.specs.Refusals.{inForm};
+ghost use Rattle.rules.specs.Arguments.{overRecord};
+ghost use Rattle.rules.specs.Layout.{encode};
+ghost use Rattle.rules.specs.Endings.{Ends};
+ghost use Rattle.rules.specs.Broadcast.{ruleOf, broadcastCall};
+ghost use Rattle.lists.specs.Places.{standing, Inside};
+use judging::Sizes;
+use lists::Ask;
+use lists::Thing;
+use rules::Refusal;
+use rules::Rule;
+use rules::Written;
+
+// What an operator byte asks: 47 divides, 42 multiplies, every other one unites.
+fn rule_of(operator: u8) -> Rule
+    ensures { λ r. ⌜ r ≡ ruleOf operator ⌝ }
+{
+    match operator {
+        47 => Rule::Divide,
+        42 => Rule::Multiply,
+        0..=41 | 43..=46 | 48..=255 => Rule::Unite,
+    }
+}
+
+// Whether one of n records has more than 4 axes.
+fn over_axes(layouts: &[i32], places: [usize; 16], n: usize) -> bool
+    requires { ⌜ Inside n places (now layouts) ⌝ }
+    ensures { λ r. ⌜ r ≡ any overRecord (standing n places (now (layouts .entry))) ⌝ }
+{
+    let shapes = lists::moved(layouts, places, n, 2);
+    !lists::all_pass(Ask::FewAxes, layouts, shapes, n)
+}
+
+// As many records as `count` says, end to end, are stretched to their common shape and folded by an operator; what comes out goes to
+// the result.
+pub fn broadcast(
+    layouts: &[i32],
+    count: i32,
+    operator: u8,
+    result: &mut [i32],
+    work: &mut [i32],
+) -> Written
+    ensures { λ r. ⌜ Ends (inForm encode (broadcastCall (now (layouts .entry)) count operator (length (now (result .entry))) (length (now (work .entry))))) (now (result .entry)) (now (work .entry)) r (now (result .exit)) (now (work .exit)) ⌝ }
+{
+    let n = shapes::list_count(count);
+    let places = lists::places(Thing::Record, layouts, n);
+    let over = judging::either(shapes::over_count(count), over_axes(layouts, places, n));
+    if let Sizes::Refused(why) = judging::judge_sizes(over, result.len(), work.len()) {
+        return Written::Refused(why);
+    }
+    if !lists::all_sound(layouts, places, n) {
+        return parts::refuse(Refusal::Unsound, work);
+    }
+    let rule = rule_of(operator);
+    let step = fold::broadcast_in(layouts, places, n, rule, &mut work[0..parts::WINDOW]);
+    parts::finish(step, work, parts::LEFT, result)
+}
