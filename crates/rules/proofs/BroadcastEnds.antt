@@ -69,8 +69,8 @@ module _ {l : Layout} (s : Sound l) (not-full : eqb (length (l .rows)) (product 
   extents-alike = both-true (not (eqb (rank l) 1)) (alike (l .shape)) (parts .0) .1
 
   -- its rows have numbers: a layout with one empty row or none, as many as its first extent, is full
-  wide : 1 ≤ width l
-  wide = by (width l) refl
+  pub rows-wide : 1 ≤ width l
+  rows-wide = by (width l) refl
     where
       count : length (l .rows) ≡ getD (l .shape) 0 0
       count = eqb-true (length (l .rows)) (getD (l .shape) 0 0) (parts .1)
@@ -87,7 +87,7 @@ module _ {l : Layout} (s : Sound l) (not-full : eqb (length (l .rows)) (product 
   diagonal-sound =
       let f = sound-framed s in
       let frame : Framed (asDiagonal l) = record { rank-most = f .rank-most; product-most = f .product-most; states-are = f .states-are; inputs-are = f .inputs-are } in
-      formed-sound (diagonal-framed frame refl wide (alike-take (width l) (l .shape) extents-alike) refl) (omega arith) (s .sizes .states-few) (s .sizes .inputs-few)
+      formed-sound (diagonal-framed frame refl rows-wide (alike-take (width l) (l .shape) extents-alike) refl) (omega arith) (s .sizes .states-few) (s .sizes .inputs-few)
 
 -- ---- the end, case by case
 

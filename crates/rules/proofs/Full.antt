@@ -35,7 +35,7 @@ subset-length {a} {b} i f =
     sorted-append m = Memᴰ·append-right a (sorted-only b m)
 
 -- rows that increase and are as many as rows that hold them all have each of them
-full-has : {a b : List (List ℕ)} → Increasing a → Subset a b → length b ≤ length a → {y : List ℕ} → In y b → In y a
+pub full-has : {a b : List (List ℕ)} → Increasing a → Subset a b → length b ≤ length a → {y : List ℕ} → In y b → In y a
 full-has {a} {b} i f n {y} m = ⊎-elim (λ k. k) more (in-or-not y a)
   where
     more : (In y a → ⊥) → In y a
@@ -84,7 +84,7 @@ module _ (l : Layout) (k : l .kind ≡ 2) (once : length (sorted (l .rows)) ≡ 
   }
 
   -- it holds all positions if its rows number the product
-  full-holds : length (l .rows) ≡ product (l .shape) → (index : List ℕ) → holds (toDense l) index ≡ holds l index
+  pub full-holds : length (l .rows) ≡ product (l .shape) → (index : List ℕ) → holds (toDense l) index ≡ holds l index
   unfolding toDense
   full-holds n index = decided (holds (toDense l) index) (holds l index) there (λ h. holds-dense (toDense l) index refl ∙ true-position (holds-position l index h))
     where

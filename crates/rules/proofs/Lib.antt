@@ -13,7 +13,7 @@
 --     Given                                                        that what they give is sound
 --     StretchedHolds, Full, IntersectHolds, ContractedHolds,
 --     PermutedHolds                                                what is held then
---     Giving, Unchanged, Folding, BroadcastEnds                    a broadcast: what is stretched, folded in order, and its end
+--     Giving, Unchanged, Folding, BroadcastEnds, BroadcastHolds    a broadcast: what is stretched, folded in order, its end, and what it holds
 --     Calls                                                        what calls answer of sound records
 --     Piled, PiledPairs, Summing, ExchangeMade, ExchangeKeeps,
 --     Piles                                                        the pile: any exchanges keep its counts
@@ -90,6 +90,7 @@ pub mod Giving
 pub mod Unchanged
 pub mod Folding
 pub mod BroadcastEnds
+pub mod BroadcastHolds
 pub mod Determined
 pub mod WorkedByHand
 pub mod Refusing
