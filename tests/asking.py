@@ -19,7 +19,7 @@ REFUSALS = {
     28: (1, 2, 3, 5, 10, 12), 29: (), 30: (), 31: (),
 }
 # the operations that the port has: to be answered, and never with `unknown`
-IN_PORT = (1, 2, 3, 4, 5, 7, 8, 9, 10, 11, 12, 13, 14, 15, 16, 17, 18, 19, 20, 22, 23, 24, 25, 26, 28, 29, 30, 31)
+IN_PORT = tuple(REFUSALS)
 
 
 def need_rust():

@@ -79,7 +79,7 @@ fn of_range(
     )
 }
 
-// The same where one slice is all that a call takes but for numbers; unknown if the operation is not there yet.
+// The same where one record is all that a call takes but for numbers.
 fn of_one(
     request: &[i32],
     at: [usize; 7],
@@ -102,8 +102,29 @@ fn of_one(
             work,
             out,
         ),
+        _ => of_list(request, at, result, work, out),
+    }
+}
+
+// The same for a list of records or blocks; unknown if the operation is none of these.
+fn of_list(
+    request: &[i32],
+    at: [usize; 7],
+    result: &mut [i32],
+    work: &mut [i32],
+    out: &mut [u8],
+) -> usize {
+    let things = list(request, at[0]);
+    let count = number(request, at[1]);
+    match number(request, 0) {
         26 => ended(
-            layout::broadcast(first, asked, byte(request, at[2]), result, work),
+            layout::broadcast(things, count, byte(request, at[2]), result, work),
+            result,
+            work,
+            out,
+        ),
+        27 => ended(
+            layout::concatenate(things, count, number(request, at[2]), result, work),
             result,
             work,
             out,

@@ -9,6 +9,7 @@ pub use form_calls::sparse;
 pub use form_calls::to_data_layout;
 pub use form_calls::to_dense;
 pub use list_calls::broadcast;
+pub use list_calls::concatenate;
 pub use pair_calls::filter_deps_from;
 pub use pair_calls::intersect;
 pub use pair_calls::union;

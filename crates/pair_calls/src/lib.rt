@@ -54,8 +54,8 @@ pub fn intersect(left: &[i32], right: &[i32], result: &mut [i32], work: &mut [i3
     ensures { λ r. ⌜ Ends (inForm encode (intersectCall (now (left .entry)) (now (right .entry)) (length (now (result .entry))) (length (now (work .entry))))) (now (result .entry)) (now (work .entry)) r (now (result .exit)) (now (work .exit)) ⌝ }
 {
     let over = judging::either(records::over_record(left), records::over_record(right));
-    if let Sizes::Refused(why) = judging::judge_sizes(over, result.len(), work.len()) {
-        return Written::Refused(why);
+    if let Sizes::Refused(reason) = judging::judge_sizes(over, result.len(), work.len()) {
+        return Written::Refused(reason);
     }
     let Walk::To(first) = records::sound_head(left) else {
         return parts::refuse(Refusal::Unsound, work);

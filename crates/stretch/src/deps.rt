@@ -13,7 +13,7 @@ use super::spread::is_stretched;
 use super::spread::smaller;
 
 // The dependency at a place fitted to a rank: its index cut, or 0 on the new axes; its number stays behind.
-fn fitted(from: &[i32], at: usize, old: usize, rank: usize) -> [i32; 5]
+pub fn fitted(from: &[i32], at: usize, old: usize, rank: usize) -> [i32; 5]
     requires { ⌜ FitAsked at old rank (now from) ⌝ }
     ensures { λ r. ⌜ rowAt 0 (rank + 1) r ≡ onIndex (fitTo rank 0) (rowAt at (old + 1) (now (from .entry))) ⌝ }
 {

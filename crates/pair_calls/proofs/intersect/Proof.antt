@@ -64,8 +64,8 @@ either-requires c κs = search needs
 judge-sizes-requires : tie.Need-judge-sizes-requires
 judge-sizes-requires c κs = search needs
 
-enum-known-why : tie.Need-enum-known-why
-enum-known-why c = search needs
+enum-known-reason : tie.Need-enum-known-reason
+enum-known-reason c = search needs
 
 returns : tie.Need-returns
 unfolding intersectCall
@@ -77,7 +77,7 @@ returns c =
     let or = or2 .before in
     let b = or .before in
     let a = b .args in
-    pair-early intersect (order (now (a .left)) (now (a .right))) (now (a .left)) (now (a .right)) (now (a .result)) (now (a .work)) (or .over-record .ensures) (or2 .over-record2 .ensures) (e .either .ensures) (js .judge-sizes .ensures) (w .why .given .1)
+    pair-early intersect (order (now (a .left)) (now (a .right))) (now (a .left)) (now (a .right)) (now (a .result)) (now (a .work)) (or .over-record .ensures) (or2 .over-record2 .ensures) (e .either .ensures) (js .judge-sizes .ensures) (w .reason .given .1)
 
 enum-told : tie.Need-enum-told
 enum-told c = search needs
@@ -243,7 +243,7 @@ intersect-spec =
     over-record-requires-2
     either-requires
     judge-sizes-requires
-    enum-known-why
+    enum-known-reason
     returns
     enum-told
     sound-head-requires

@@ -1,0 +1,3 @@
+-- The definitions that the contracts of entries cite.
+pub mod Listing
+pub mod Merging

@@ -1,0 +1,2 @@
+-- The definitions that the contracts of join cite.
+pub mod Assembling
