@@ -1,4 +1,4 @@
--- What a broadcast holds: what one of the stretched layouts holds, or what all of them do, as the operator asks. Assumes nothing.
+-- What a broadcast gives is sound, and holds what one of the stretched layouts holds, or what all of them do, as the operator asks. Assumes nothing.
 use mathlib.Core.Path.{_≡_, refl, sym, ap, _∙_}
 use mathlib.Core.Bool.{Bool, true, false, not, _&&_, _||_}
 use mathlib.Core.List.{List, [], _∷_, _++_, map, reverse, reverse-cons, Memᴰ·map}
@@ -33,7 +33,7 @@ use Rattle.rules.proofs.UnionHolds.{union-holds}
 use Rattle.rules.proofs.Full.{full-has, full-holds}
 use Rattle.rules.proofs.IntersectHolds.{intersect-sound, intersect-holds}
 use Rattle.rules.proofs.Giving.{Giving, given-such, giving-if, giving-then, giving-step, giving-made}
-use Rattle.rules.proofs.BroadcastEnds.{rows-wide}
+use Rattle.rules.proofs.BroadcastEnds.{to-dense-sound, rows-wide}
 
 -- an index is held by one of the layouts, or by all of them
 abbrev pub heldBy : Rule → List Layout → List ℕ → Bool
@@ -247,27 +247,49 @@ end-holds {l} s =
         (λ d. giving-made P (asDiagonal l) (λ _ index. diagonal-holds s k g (omega (arith, eqb-false (rank l) 0 e)) d index))
         (λ _ index. refl)
 
+-- and leaves a sound layout sound
+end-sound : {l : Layout} → Sound l → Giving Sound (endOfBroadcast l)
+unfolding endOfBroadcast
+end-sound {l} s =
+    giving-if Sound (not (isSparse l)) _ _ (λ _. s)
+    (λ _. giving-if Sound (eqb (length (l .rows)) (product (l .shape))) _ _ (λ _. to-dense-sound s)
+    (λ _. giving-step Sound (12 when eqb (rank l) 0 ∷ []) (if (isDiagonalInRows l) (made (asDiagonal l)) (given l))
+    (giving-if Sound (isDiagonalInRows l) (made (asDiagonal l)) (given l) (λ _. giving-made Sound (asDiagonal l) (λ t. t)) (λ _. s))))
+
 -- ---- the broadcast
 
--- what a broadcast gives holds an index exactly if one of the stretched layouts does, or, by '*' and '/', all of them
+-- the shape that is given is the common one
+common-given : (shapes : List (List ℕ)) → Giving (λ shape. shape ≡ commonShape shapes) (broadcastShapes shapes)
+unfolding broadcastShapes
+common-given shapes =
+    giving-step (λ shape. shape ≡ commonShape shapes) (6 when (none shapes || not (shapesAgree shapes)) ∷ 13 when not (withinProduct (commonShape shapes)) ∷ [])
+    (given (commonShape shapes)) refl
+
+-- what a broadcast gives is what the end makes of a sound layout that holds what the stretched ones hold
+broadcast-folds : (layouts : List Layout) (rule : Rule) (P : Layout → Type 0) → ((l : Layout) →
+    HoldsOf rule (map (λ x. stretched x (commonShape (map (λ x. x .shape) layouts))) layouts) l → Giving P (endOfBroadcast l)) → Giving P (broadcast layouts rule)
+unfolding broadcast
+broadcast-folds layouts rule P end =
+    let shapes : List (List ℕ) = map (λ x. x .shape) layouts in
+    giving-then P (λ shape. shape ≡ commonShape shapes) (broadcastShapes shapes) _ (common-given shapes)
+    (λ shape c. giving-then P (λ all. (all ≡ map (λ x. stretched x shape) layouts) × Sounds all) (stretchAll shape layouts) _ (all-stretched shape layouts)
+    (λ all q. giving-then P (HoldsOf rule (reverse all)) (foldBack rule (reverse all)) _ (back-holds rule (reverse all) (all-reverse soundLayout all ∙ q .1))
+    (λ l t. end l (t .0, λ index. t .1 index ∙ held-reverse rule all index ∙ rw (q .0, c)))))
+
+-- it is sound
+pub broadcast-sound : (layouts : List Layout) (rule : Rule) {l : Layout} → broadcast layouts rule ≡ given l → Sound l
+broadcast-sound layouts rule e = given-such Sound (broadcast layouts rule) (broadcast-folds layouts rule Sound (λ l t. end-sound (t .0))) e
+
+-- it holds an index exactly if one of the stretched layouts does, or, by '*' and '/', all of them
 pub broadcast-holds : (layouts : List Layout) (rule : Rule) {l : Layout} → broadcast layouts rule ≡ given l → (index : List ℕ) →
     holds l index ≡ heldBy rule (map (λ x. stretched x (commonShape (map (λ x. x .shape) layouts))) layouts) index
-unfolding broadcast
-broadcast-holds layouts rule e = given-such P (broadcast layouts rule) all-hold e
+broadcast-holds layouts rule e = given-such P (broadcast layouts rule) (broadcast-folds layouts rule P all-hold) e
   where
-    shapes : List (List ℕ)
-    shapes = map (λ x. x .shape) layouts
+    all : List Layout
+    all = map (λ x. stretched x (commonShape (map (λ x. x .shape) layouts))) layouts
 
     P : Layout → Type 0
-    P l = (index : List ℕ) → holds l index ≡ heldBy rule (map (λ x. stretched x (commonShape shapes)) layouts) index
+    P l = (index : List ℕ) → holds l index ≡ heldBy rule all index
 
-    common : Giving (λ shape. shape ≡ commonShape shapes) (broadcastShapes shapes)
-    common = unfold broadcastShapes in giving-step (λ shape. shape ≡ commonShape shapes) (6 when (none shapes || not (shapesAgree shapes)) ∷ 13 when not (withinProduct (commonShape shapes)) ∷ []) (given (commonShape shapes)) refl
-
-    all-hold : Giving P (broadcast layouts rule)
-    all-hold =
-        giving-then P (λ shape. shape ≡ commonShape shapes) (broadcastShapes shapes) _ common
-        (λ shape c. giving-then P (λ all. (all ≡ map (λ x. stretched x shape) layouts) × Sounds all) (stretchAll shape layouts) _ (all-stretched shape layouts)
-        (λ all q. giving-then P (HoldsOf rule (reverse all)) (foldBack rule (reverse all)) _ (back-holds rule (reverse all) (all-reverse soundLayout all ∙ q .1))
-        (λ l t. giving-as (λ x. (index : List ℕ) → holds x index ≡ holds l index) P (endOfBroadcast l) (end-holds (t .0))
-        (λ x h index. h index ∙ t .1 index ∙ held-reverse rule all index ∙ rw (q .0, c)))))
+    all-hold : (l : Layout) → HoldsOf rule all l → Giving P (endOfBroadcast l)
+    all-hold l t = giving-as (λ x. (index : List ℕ) → holds x index ≡ holds l index) P (endOfBroadcast l) (end-holds (t .0)) (λ x h index. h index ∙ t .1 index)
