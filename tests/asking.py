@@ -3,7 +3,7 @@
 The reading and the generator of requests are in tests/reading; tests/reading/REQUESTS.md says what a request line is. The sources of the
 Rust are not in the repository: the folder DIFFSL_SRC has them, by default ../shared/docs/src beside it.
 """
-import os, shutil, subprocess, sys
+import functools, os, platform, shutil, subprocess, sys
 
 ROOT = os.path.dirname(os.path.dirname(os.path.abspath(__file__)))
 READING = os.path.join(ROOT, 'tests', 'reading')
@@ -76,3 +76,16 @@ def rust(requests):
 def port(requests):
     """The answers of the port, which is proved and built first if need be."""
     return lines([os.path.join(ROOT, 'run'), 'answers'], requests)
+
+
+@functools.cache
+def program(name):
+    """The words that start a program of the port, which is proved and built once, before its first text."""
+    subprocess.run([os.path.join(ROOT, 'run'), name], input=b'', stdout=subprocess.DEVNULL, check=True)
+    built = os.path.join(ROOT, 'target', 'bin', name)
+    return [built] if platform.machine() == 'x86_64' else [os.path.join(ROOT, 'run'), name]
+
+
+def printed(name, text):
+    """What a program of the port prints for a text."""
+    return subprocess.run(program(name), input=text.encode(), capture_output=True, cwd=ROOT, check=True).stdout.decode()

@@ -400,6 +400,11 @@ def exchange_records(text):
     return "\n".join(lines)
 
 
+def printed(said):
+    """What a program prints that says this: its lines, each ended."""
+    return said + "\n" if said else ""
+
+
 def optimiser_example():
     """The small program of Q-12: the union X of two rows, then X intersected with X."""
     one = lambda i: Layout(SPARSE, 0, (2,), ((i,),), (), ())
@@ -412,7 +417,7 @@ def main():
     programs = {"optimiser-example": optimiser_example, "union-records": lambda: union_records(sys.stdin.read()),
                 "exchange-records": lambda: exchange_records(sys.stdin.read())}
     if sys.argv[1:]:
-        print(programs[sys.argv[1]]())
+        sys.stdout.write(printed(programs[sys.argv[1]]()))
         return
     for line in sys.stdin:
         print(answer(line))
