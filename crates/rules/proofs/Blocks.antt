@@ -84,6 +84,15 @@ last-same kept (shape ∷ shapes) e p q m n = sym (one p m) ∙ one q n
     one other (List·Memᴰ·head d) = ap (drop kept) (sym d)
     one other (List·Memᴰ·tail i) = same-true (all-each (λ u. same (drop kept shape) (drop kept u)) e other i)
 
+-- a block that is not sparse, where nothing bars rows: there is no dense axis
+pub no-axis : (blocks : List Block) → ltb 0 (blocksD blocks) && not (all isSparse (layoutsOf blocks)) ≡ false → (b : Block) → List·Memᴰ b blocks → isSparse (b .layout) ≡ false → blocksD blocks ≡ 0
+no-axis blocks bare b m e = by (ltb 0 (blocksD blocks)) (all isSparse (layoutsOf blocks)) refl refl bare
+  where
+    by : (s t : Bool) → ltb 0 (blocksD blocks) ≡ s → all isSparse (layoutsOf blocks) ≡ t → s && not t ≡ false → blocksD blocks ≡ 0
+    by true true f g h = absurd (true-not-false (of-blocks isSparse blocks g b m) e)
+    by true false f g h = cc
+    by false t f g h = let past = ltb-false 0 (blocksD blocks) f in omega arith
+
 module _ (r : ℕ) (blocks : List Block) (a : agree r blocks ≡ true) where
   -- all ranks are the asked one
   pub rank-one : (b : Block) → List·Memᴰ b blocks → rank (b .layout) ≡ r
@@ -109,15 +118,6 @@ module _ (r : ℕ) (blocks : List Block) (a : agree r blocks ≡ true) where
       let lasts = last-same kept (shapesOf blocks) (both-true (all (λ l. eqb (l .dense) (blocksD blocks)) (notDense blocks) && all (λ l. eqb (rank l) r) (layoutsOf blocks)) (lastAgree kept (shapesOf blocks)) a .1) (b .layout .shape) (c .layout .shape) (Memᴰ·map (λ x. x .layout .shape) m) (Memᴰ·map (λ x. x .layout .shape) n) in
       rw at at (sym (getD-drop kept (b .layout .shape) (k - kept) 0) ∙ ap (λ (t : List ℕ). getD t (k - kept) 0) lasts ∙ getD-drop kept (c .layout .shape) (k - kept) 0)
 
-  -- a block that is not sparse, where nothing bars rows: there is no dense axis
-  pub no-axis : ltb 0 (blocksD blocks) && not (all isSparse (layoutsOf blocks)) ≡ false → (b : Block) → List·Memᴰ b blocks → isSparse (b .layout) ≡ false → blocksD blocks ≡ 0
-  no-axis bare b m e = by (ltb 0 (blocksD blocks)) (all isSparse (layoutsOf blocks)) refl refl bare
-    where
-      by : (s t : Bool) → ltb 0 (blocksD blocks) ≡ s → all isSparse (layoutsOf blocks) ≡ t → s && not t ≡ false → blocksD blocks ≡ 0
-      by true true f g h = absurd (true-not-false (of-blocks isSparse blocks g b m) e)
-      by true false f g h = cc
-      by false t f g h = let past = ltb-false 0 (blocksD blocks) f in omega arith
-
   module _ (p : FormedBlocks r blocks) where
     -- D is not above the rank
     pub d-low : blocksD blocks ≤ r
@@ -141,12 +141,12 @@ module _ (r : ℕ) (blocks : List Block) (a : agree r blocks ≡ true) where
 
         by : (s t : Bool) → isDense l ≡ s → isDiagonal l ≡ t → Each (RowIn l) (if s (positions (l .shape)) (if t (expanded l .rows) (l .rows)))
         by true t f g row i =
-            let none = no-axis bare b m (ne-eqb (l .kind) 2 (λ z. omega (arith, eqb-true (l .kind) 0 f))) in
+            let none = no-axis blocks bare b m (ne-eqb (l .kind) 2 (λ z. omega (arith, eqb-true (l .kind) 0 f))) in
             let q = positions-only (l .shape) i in
             (omega (arith, q .0, rank-one b m), q .1)
         by false true f g row i =
             let kind : l .kind ≡ 1 = eqb-true (l .kind) 1 g in
-            let none : blocksD blocks ≡ 0 = no-axis bare b m (ne-eqb (l .kind) 2 (λ z. omega arith)) in
+            let none : blocksD blocks ≡ 0 = no-axis blocks bare b m (ne-eqb (l .kind) 2 (λ z. omega arith)) in
             let axes : l .dense ≡ 0 = dense-one b m f ∙ none in
             let w : Lowered l (lowered l 0) 0 = lowered-is (p b m .form) (λ z. omega arith) (omega arith) (rw (g, axes)) (lists-zero l refl) in
             let same : lowered l 0 ≡ expanded l = lowered-diagonal l 0 kind in

@@ -1,17 +1,17 @@
 -- A sparse join holds a position exactly if an unflagged block, moved by its start, does: for blocks of every kind and any D. Assumes nothing.
-use mathlib.Core.Path.{_≡_, refl, sym, ap, _∙_, subst}
+use mathlib.Core.Path.{_≡_, refl, sym, ap, _∙_}
 use mathlib.Core.Bool.{Bool, true, false, not, _&&_}
 use mathlib.Core.List.{List, [], _∷_, _++_, map, List·Memᴰ, List·Memᴰ·not-nil, Memᴰ·map, Memᴰ·of-map}
 use Prim.Native.Nat.{ℕ, _+_, _-_, _<_, _≤_}
 use native.Mathlib.Omega.{arith}
 use borrow.Author.Tests.{ne-eqb, not-false}
 use lib.Dec.{ltb}
-use lib.ListN.{length, getD, take, drop, length-append, length-take, length-drop, List·getD-append}
+use lib.ListN.{length, getD, take, drop, length-append, length-drop, List·getD-append}
 use lib.Seq.{getD-take, getD-drop, getD-append-add, take-at, take-all, ext-getD}
 use Rattle.rules.specs.Lists.{if, all, any, none, gather, below}
 use Rattle.rules.specs.RowsInOrder.{among, In}
 use Rattle.rules.specs.Refusals.{given, _when_}
-use Rattle.rules.specs.Layout.{Layout, rank, width, isDense, isSparse, withDeps, made}
+use Rattle.rules.specs.Layout.{Layout, rank, width, isDense, isSparse, made}
 use Rattle.rules.specs.CountsAndForms.{denseIfFull}
 use Rattle.rules.specs.Removal.{positions}
 use Rattle.rules.specs.Pairs.{expanded}
@@ -30,7 +30,8 @@ use Rattle.rules.proofs.UnionHolds.{deps-hold}
 use Rattle.rules.proofs.Full.{dense-if-full-holds}
 use Rattle.rules.proofs.Giving.{Giving, given-such, giving-if, giving-then, giving-step, giving-unless, giving-form, giving-made}
 use Rattle.rules.proofs.MovedBy.{moved-by-length, moved-by-at, moved-by-take}
-use Rattle.rules.proofs.Blocks.{FormedBlocks, rank-one, dense-one, last-one, no-axis, d-low, rows-in, reach-least, reach-most, length-reach, reach-at, moved-in}
+use Rattle.rules.proofs.ConcatenateMade.{joinedFull}
+use Rattle.rules.proofs.Blocks.{FormedBlocks, rank-one, dense-one, last-one, no-axis, d-low, rows-in, reach-most, length-reach, reach-at, moved-in}
 
 -- a block, moved by its start, holds an index; a block flagged as zero holds nothing
 abbrev pub movedHolds : Block → List ℕ → Bool
@@ -65,7 +66,7 @@ module _ (r : ℕ) (blocks : List Block) (p : FormedBlocks r blocks) (a : agree 
   module _ (b : Block) (m : List·Memᴰ b blocks) where
     -- a block that is not sparse: there is no dense axis
     no-dense : (b .layout .kind ≡ 2 → ⊥) → blocksD blocks ≡ 0
-    no-dense f = no-axis r blocks a bare b m (ne-eqb (b .layout .kind) 2 f)
+    no-dense f = no-axis blocks bare b m (ne-eqb (b .layout .kind) 2 f)
 
     -- so a diagonal one has none
     no-dense-of : b .layout .kind ≡ 1 → b .layout .dense ≡ 0
@@ -254,7 +255,7 @@ module _ (r : ℕ) (blocks : List Block) (p : FormedBlocks r blocks) (zeros : St
         (λ _. giving-step (HoldsMoved blocks) (10 when any (λ l. ltb r (rank l)) (layoutsOf blocks) ∷ []) _
         (giving-then (HoldsMoved blocks) (HoldsMoved blocks) (if (all isDense (layoutsOf blocks) && runOnFirst r blocks) (joinDense r blocks) (joinOther r blocks)) _
         (giving-if (HoldsMoved blocks) (all isDense (layoutsOf blocks) && runOnFirst r blocks) _ _ (λ e. absurd (true-not-false e not-first)) (λ _. other-holds))
-        (λ l h. giving-made (HoldsMoved blocks) (withDeps (joinedDeps r (λ x. x .states) blocks) (joinedDeps r (λ x. x .inputs) blocks) l)
+        (λ l h. giving-made (HoldsMoved blocks) (joinedFull r blocks l)
         (λ _ index. deps-hold (joinedDeps r (λ x. x .states) blocks) (joinedDeps r (λ x. x .inputs) blocks) l index ∙ h index)))))
 
 -- ---- with no dense axis

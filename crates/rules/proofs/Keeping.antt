@@ -6,7 +6,7 @@ use Prim.Native.Nat.{ℕ, _≤_}
 use native.Mathlib.Omega.{arith}
 use lib.ListN.{length}
 use Rattle.rules.specs.Lists.{keep}
-use Rattle.rules.specs.RowsInOrder.{In, Each, Increasing, increasing-nil, increasing-cons}
+use Rattle.rules.specs.RowsInOrder.{Each, Increasing, increasing-nil, increasing-cons}
 use Rattle.rules.proofs.Sets.{each-nil, each-cons, Subset}
 
 module _ {A : Type 0} (test : A → Bool) where

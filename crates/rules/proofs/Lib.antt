@@ -14,7 +14,7 @@
 --     StretchedHolds, Full, IntersectHolds, ContractedHolds,
 --     PermutedHolds                                                what is held then
 --     Giving, Unchanged, Folding, BroadcastEnds, BroadcastHolds    a broadcast: what is stretched, folded in order, its end, and what it holds
---     MovedBy, Blocks, JoinHolds                                   blocks: what is moved by a start, what they have in common, and what a join holds
+--     MovedBy, Blocks, ConcatenateMade, JoinHolds                  blocks: what is moved by a start, what they have in common, what is made of them, and what a join holds
 --     Calls                                                        what calls answer of sound records
 --     Piled, PiledPairs, Summing, ExchangeMade, ExchangeKeeps,
 --     Piles                                                        the pile: any exchanges keep its counts
@@ -22,7 +22,8 @@
 --     PileByHand                                                   a pile exchanged by hand
 --     Determined                                                   two outcomes that a contract allows are equal
 --     WorkedByHand, Examples                                       the table, and examples of every operation
---     Refusing, RefusedWith, BroadcastRefused, Never14             which numbers are given, and that 14 never is
+--     Refusing, RefusedWith, BroadcastRefused,
+--     ConcatenateRefused, Never14                                  which numbers are given, and that 14 never is
 pub mod Order
 pub mod Same
 pub mod Sets
@@ -95,11 +96,13 @@ pub mod BroadcastEnds
 pub mod BroadcastHolds
 pub mod MovedBy
 pub mod Blocks
+pub mod ConcatenateMade
 pub mod JoinHolds
 pub mod Determined
 pub mod WorkedByHand
 pub mod Refusing
 pub mod RefusedWith
 pub mod BroadcastRefused
+pub mod ConcatenateRefused
 pub mod Never14
 mod Examples

@@ -1,10 +1,11 @@
 -- A row or an index moved by a start, number by number. Assumes nothing.
-use mathlib.Core.Path.{_≡_, refl, sym, ap}
+use mathlib.Core.Path.{_≡_, refl, sym, ap, _∙_}
 use mathlib.Core.List.{List, [], _∷_}
 use Prim.Native.Nat.{ℕ, zero, suc, _+_, _<_}
 use native.Mathlib.Nat.{zero-add}
 use native.Mathlib.Omega.{arith}
 use lib.ListN.{length, getD, take}
+use lib.Seq.{ext-getD}
 use Rattle.rules.specs.Concatenate.{movedBy}
 
 -- it keeps its length
@@ -29,3 +30,11 @@ moved-by-take [] row n = refl
 moved-by-take (s ∷ start) row zero = refl
 moved-by-take (s ∷ start) [] (suc n) = refl
 moved-by-take (s ∷ start) (c ∷ row) (suc n) = ap (λ (t : List ℕ). (s + c) ∷ t) (moved-by-take start row n)
+
+-- two starts that agree on the numbers of a row move it alike
+pub moved-by-same : (p q row : List ℕ) → ((k : ℕ) → k < length row → getD p k 0 ≡ getD q k 0) → movedBy p row ≡ movedBy q row
+moved-by-same p q row f =
+    ext-getD 0 (movedBy p row) (movedBy q row) (moved-by-length p row ∙ sym (moved-by-length q row))
+    (λ k l.
+    let h : k < length row = rw (moved-by-length p row) at l in
+    moved-by-at p row k h ∙ ap (λ (n : ℕ). n + getD row k 0) (f k h) ∙ sym (moved-by-at q row k h))
