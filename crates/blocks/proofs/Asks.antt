@@ -11,12 +11,13 @@ use lib.IntN.{ℤ}
 use lib.ListN.{length, getD, take, drop, length-map, drop-of-length-le, List·getD-map}
 use lib.Seq.{drop-cons}
 use Rattle.rules.specs.Lists.{all, keep}
-use Rattle.rules.specs.Layout.{Layout, rank, isDense}
+use Rattle.rules.specs.Layout.{Layout, rank}
 use Rattle.rules.specs.Soundness.{Sound}
 use Rattle.rules.specs.Record.{layoutIn, sound}
 use Rattle.rules.specs.Concatenate.{firstD}
 use Rattle.rules.proofs.Tests.{all-each}
 use Rattle.rules.proofs.ReadBack.{layout-sound}
+use Rattle.rules.proofs.Blocks.{first-low}
 use Rattle.tables.proofs.Passing.{Passed, none-passed, one-more, one-fails, all-passed}
 use Rattle.lists.specs.Places.{standing, Inside, EachAt}
 use Rattle.lists.proofs.Beginning.{length-standing, lent-at, place-inside, place-fits, known-at}
@@ -115,17 +116,7 @@ layouts-sound {n} {records} {s} p l m =
 
 -- ---- the first one not dense
 
--- D is not above r if that of no layout is
-pub first-low : (r : ℕ) (l : List Layout) → ((x : Layout) → List·Memᴰ x l → x .dense ≤ r) → firstD (keep otherwise l) ≤ r
-unfolding keep firstD
-first-low r [] h = omega arith
-first-low r (x ∷ l) h = by (isDense x) refl (first-low r l (λ y m. h y (List·Memᴰ·tail m)))
-  where
-    by : (t : Bool) → isDense x ≡ t → firstD (keep otherwise l) ≤ r → firstD (keep otherwise (x ∷ l)) ≤ r
-    by true e k = rw e k
-    by false e k = rw e (h x (List·Memᴰ·head refl))
-
--- so it is not above the rank of all
+-- its D is not above the rank of all
 pub first-within : {n : ℕ} {records : List ℕ} {s : List ℤ} {r d : ℕ} {b : Bool} → EachAt SoundAt n records s → d ≡ firstD (keep otherwise (layoutsAt n records s)) →
     b ≡ all (asked (OfRank r)) (layoutsAt n records s) → not b ≡ false → d ≤ r
 first-within {n} {records} {s} {r} {d} {b} p e f g =

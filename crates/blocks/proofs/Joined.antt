@@ -4,16 +4,16 @@ use mathlib.Core.Bool.{Bool, true, false, not, _&&_}
 use mathlib.Core.List.{List, [], _∷_, _++_}
 use Prim.Native.Nat.{ℕ, zero, suc, _≤_}
 use native.Mathlib.Omega.{arith}
-use borrow.Author.Tests.{ne-eqb}
 use lib.Dec.{ltb}
 use lib.ListN.{length, take, replicate, length-map}
 use Rattle.rules.specs.Limits.{rankLimit}
 use Rattle.rules.specs.Lists.{if, all, any, fitTo}
 use Rattle.rules.specs.Refusals.{Verdict, given, refused, inForm, _then_, _when_, lowest}
-use Rattle.rules.specs.Layout.{Layout, rank, isDense, isSparse, withDeps, made}
+use Rattle.rules.specs.Layout.{Layout, rank, isDense, isSparse, made}
 use Rattle.rules.specs.CountsAndForms.{dense, denseIfFull}
-use Rattle.rules.specs.Concatenate.{Block, layoutsOf, shapesOf, runOnFirst, runOnDiagonal, laterAgree, joinedShape, joinDense, blocksD, agree, allDiagonal, joinDiagonal, joinedRows, joinSparse, joinOther, joinedDeps, joinBlocks}
+use Rattle.rules.specs.Concatenate.{Block, layoutsOf, shapesOf, runOnFirst, runOnDiagonal, laterAgree, joinedShape, joinDense, blocksD, agree, allDiagonal, joinDiagonal, joinedRows, joinSparse, joinOther, joinBlocks}
 use Rattle.rules.proofs.Ranges.{from-length}
+use Rattle.rules.proofs.ConcatenateMade.{joinedFull, length-dense}
 use Rattle.blocks.specs.declared.deciding.Way.{Way}
 use Rattle.blocks.specs.declared.deciding.Way.the-variants.{Unjoinable, Dense, Diagonal, Rows}
 use Rattle.blocks.specs.declared.deciding.Join.{Join}
@@ -21,7 +21,7 @@ use Rattle.blocks.specs.Joins.{wayOther, wayOf, denseBy, shapeBy, joinOf
 
 -- a layout with the dependencies of all blocks
 abbrev pub withJoined : ℕ → List Block → Layout → Verdict Layout
-withJoined r blocks l = made (withDeps (joinedDeps r (λ x. x .states) blocks) (joinedDeps r (λ x. x .inputs) blocks) l)
+withJoined r blocks l = made (joinedFull r blocks l)
 
 -- what is made in this way
 abbrev pub joinedBy : Way → ℕ → List Block → Verdict Layout
@@ -54,12 +54,7 @@ joined-by r blocks =
 
 -- ---- the shapes
 
--- a dense join has the asked rank
-pub length-dense : (r : ℕ) (blocks : List Block) → length (joinedShape r blocks) ≡ r
-length-dense zero blocks = refl
-length-dense (suc r) blocks = rw (ne-eqb (suc r) 0 (λ e. omega arith), length-map, from-length) (omega arith)
-
--- and so has every other
+-- every join has the asked rank
 length-shape : (way : Way) → (way ≡ Unjoinable → ⊥) → (r : ℕ) (blocks : List Block) → length (shapeBy way r blocks) ≡ r
 length-shape Unjoinable n r blocks = absurd (n refl)
 length-shape Dense n r blocks = length-dense r blocks

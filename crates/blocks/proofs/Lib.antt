@@ -8,8 +8,6 @@
 --     Ways         the way in which blocks are joined
 --     Joined       what `concatenate` makes of blocks, by that way
 --     Given        the blocks of a call are the blocks at hand
---     Answers      which numbers `concatenate` is refused with, and that what it gives is sound
---     Formed       what is made of joined blocks, and when it is refused
 --     Verdicts     the verdict on joined blocks, by the way in which they are joined
 pub mod Told
 pub mod Asks
@@ -20,6 +18,4 @@ pub mod Shapes
 pub mod Ways
 pub mod Joined
 pub mod Given
-pub mod Answers
-pub mod Formed
 pub mod Verdicts

@@ -15,9 +15,10 @@ use Rattle.rules.specs.Lists.{sum, larger, largest}
 use Rattle.rules.specs.Layout.{Layout}
 use Rattle.rules.specs.Record.{layoutIn}
 use Rattle.rules.specs.Concatenate.{Block}
+use Rattle.rules.proofs.Largest.{larger-is}
 use Rattle.shapes.proofs.Stretching.{larger-zero}
 use Rattle.lists.proofs.Beginning.{place-inside, place-fits}
-use Rattle.lists.proofs.Common.{zero-larger, larger-is, larger-assoc}
+use Rattle.lists.proofs.Common.{zero-larger, larger-assoc}
 use Rattle.blocks.specs.declared.measuring.Measure.{Measure}
 use Rattle.blocks.specs.declared.measuring.Measure.the-variants.{First, Extent, Reach}
 use Rattle.blocks.specs.declared.measuring.Fold.{Fold}

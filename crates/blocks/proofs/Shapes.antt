@@ -13,9 +13,9 @@ use Rattle.rules.specs.Limits.{rankLimit}
 use Rattle.rules.specs.Lists.{if, sum, larger, largest, from, below, fitTo}
 use Rattle.rules.specs.Layout.{Layout}
 use Rattle.rules.specs.Concatenate.{Block, layoutsOf, shapesOf, firstExtent, laterExtent, laterAxes, reach}
+use Rattle.rules.proofs.Largest.{larger-is}
 use Rattle.cells.specs.View.{Low}
 use Rattle.lists.proofs.Entering.{Entered, entered-none, entered-more, Filled, filled-done}
-use Rattle.lists.proofs.Common.{larger-is}
 use Rattle.blocks.specs.declared.deciding.Way.{Way}
 use Rattle.blocks.specs.declared.deciding.Way.the-variants.{Unjoinable, Dense, Diagonal, Rows}
 use Rattle.blocks.specs.declared.measuring.Measure.the-variants.{First, Extent, Reach}

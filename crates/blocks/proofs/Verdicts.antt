@@ -20,8 +20,10 @@ use Rattle.rules.specs.Concatenate.{Block, layoutsOf, shapesOf, runOnFirst, run
 use Rattle.rules.proofs.Same.{both-true}
 use Rattle.rules.proofs.Sets.{each-nil}
 use Rattle.rules.proofs.Tests.{all-each}
-use Rattle.rules.proofs.Ranges.{from-length}
 use Rattle.rules.proofs.ReadBack.{layout-sound}
+use Rattle.rules.proofs.Made.{sizedOr, form-made}
+use Rattle.rules.proofs.Blocks.{FormedBlock, FormedBlocks, length-reach}
+use Rattle.rules.proofs.ConcatenateMade.{joinedFull, no-deps, form-joined, dense-made, diagonal-none, diagonal-made, rows-form, rows-made}
 use Rattle.lists.specs.Places.{standing}
 use Rattle.lists.specs.Starts.{blocksAt}
 use Rattle.lists.proofs.Asking.{all-of}
@@ -30,7 +32,6 @@ use Rattle.blocks.specs.declared.deciding.Way.the-variants.{Unjoinable, 
 use Rattle.blocks.specs.Joins.{wayOther, wayOf}
 use Rattle.blocks.proofs.Joined.{withJoined, joinedBy, joined-by}
 use Rattle.blocks.proofs.Given.{Handed, sound-long}
-use Rattle.blocks.proofs.Formed.{SoundBlock, SoundBlocks, sizedOr, joinedFull, no-deps, form-joined, form-made, dense-made, diagonal-none, diagonal-made, rows-form, rows-made}
 
 -- ---- what a way tells
 
@@ -107,7 +108,7 @@ if-full P l p q = by (isSparse l && eqb (length (l .rows)) (product (l .shape)))
 
 -- ---- the verdict
 
-module _ (r : ℕ) (blocks : List Block) (p : SoundBlocks r blocks) (few : r ≤ rankLimit) where
+module _ (r : ℕ) (blocks : List Block) (p : FormedBlocks r blocks) (few : r ≤ rankLimit) where
   -- blocks are joined in the way that is theirs
   joined : {way : Way} → wayOf r blocks ≡ way → joinBlocks r blocks ≡ joinedBy way r blocks
   joined e = joined-by r blocks ∙ ap (λ (w : Way). joinedBy w r blocks) e
@@ -118,20 +119,20 @@ module _ (r : ℕ) (blocks : List Block) (p : SoundBlocks r blocks) (few : r ≤
 
   -- dense: 13 or given
   pub joined-dense : wayOf r blocks ≡ Dense → joinBlocks r blocks ≡ sizedOr (joinedFull r blocks (dense (joinedShape r blocks)))
-  joined-dense e = joined e ∙ dense-made r blocks p few
+  joined-dense e = joined e ∙ dense-made r blocks few p
 
   -- along the diagonal with R - D = 0: 12
   pub joined-bare : wayOf r blocks ≡ Diagonal → r ≤ blocksD blocks → joinBlocks r blocks ≡ refused 12
-  joined-bare e h = joined e ∙ diagonal-none r blocks p few (way-diagonal r blocks e .0) h
+  joined-bare e h = joined e ∙ diagonal-none r blocks h
 
   -- else: 13 or given
   pub joined-diagonal : wayOf r blocks ≡ Diagonal → blocksD blocks < r → joinBlocks r blocks ≡ sizedOr (joinedFull r blocks (joinDiagonal r blocks))
-  joined-diagonal e h = let w = way-diagonal r blocks e in joined e ∙ diagonal-made r blocks p few (w .0) (w .1) h
+  joined-diagonal e h = let w = way-diagonal r blocks e in joined e ∙ diagonal-made r blocks (w .0) p (w .1) few h
 
   -- by rows: 13 if they pass a limit of size, and then if all does with the dependencies
   pub joined-rows : wayOf r blocks ≡ Rows → joinBlocks r blocks ≡ if (withinSizes (joinedRows r blocks)) (sizedOr (joinedFull r blocks (denseIfFull (joinedRows r blocks)))) (refused 13)
   unfolding toDense
-  joined-rows e = joined e ∙ ap (λ (v : Verdict Layout). inForm denseIfFull v then λ l. withJoined r blocks l) (rows-made r blocks p few (w .0) (w .1)) ∙ by (withinSizes (joinedRows r blocks))
+  joined-rows e = joined e ∙ ap (λ (v : Verdict Layout). inForm denseIfFull v then λ l. withJoined r blocks l) (rows-made r blocks (w .0) p (w .1) few) ∙ by (withinSizes (joinedRows r blocks))
     where
       w : (agree r blocks ≡ true) × (barred r blocks ≡ false)
       w = way-rows r blocks e
@@ -140,11 +141,11 @@ module _ (r : ℕ) (blocks : List Block) (p : SoundBlocks r blocks) (few : r ≤
       l = joinedRows r blocks
 
       size : rank l ≡ r
-      size = rw (length-map, from-length)
+      size = length-reach r blocks
 
       full : withJoined r blocks (denseIfFull l) ≡ sizedOr (joinedFull r blocks (denseIfFull l))
       full =
-          let form = rows-form r blocks p few (w .0) (w .1) in
+          let form = rows-form r blocks (w .0) p (w .1) few in
           form-made (form-joined p (denseIfFull l) (if-full (λ x. rank x ≡ r) l size size) (if-full WellFormed l form (dense-of l form refl refl)))
 
       by : (t : Bool) → (inForm denseIfFull (if t (given l) (refused 13)) then λ x. withJoined r blocks x) ≡ if t (sizedOr (joinedFull r blocks (denseIfFull l))) (refused 13)
@@ -153,10 +154,10 @@ module _ (r : ℕ) (blocks : List Block) (p : SoundBlocks r blocks) (few : r ≤
 
 -- ---- the blocks of a call
 
--- they are sound
-pub blocks-sound : {r n : ℕ} {places records : List ℕ} {starts : List (List ℕ)} {s : List ℤ} → Handed r n places records starts s → SoundBlocks r (map blockOf (blocksAt r n places s))
+-- they are well formed
+pub blocks-formed : {r n : ℕ} {places records : List ℕ} {starts : List (List ℕ)} {s : List ℤ} → Handed r n places records starts s → FormedBlocks r (map blockOf (blocksAt r n places s))
 unfolding blockOf blockAt
-blocks-sound {r} {n} {places} {records} {starts} {s} p b m =
+blocks-formed {r} {n} {places} {records} {starts} {s} p b m =
     let raw = Memᴰ·of-map blockOf (blocksAt r n places s) m in
     let thing = Memᴰ·of-map (blockAt r) (standing n places s) (raw .1) in
     let t : List ℤ = thing .0 in
@@ -164,4 +165,4 @@ blocks-sound {r} {n} {places} {records} {starts} {s} p b m =
     let judged : all sound (map (drop (r + 1)) (standing n places s)) ≡ true = rw (p .moved .begin) at (p .judged) in
     let sound-one : sound (drop (r + 1) t) ≡ true = all-each (λ (u : List ℤ). sound (drop (r + 1) u)) (sym (all-of sound (drop (r + 1)) (standing n places s)) ∙ judged) t (thing .1) in
     let long : 0 < length t - (r + 1) = rw length-drop at (sound-long (drop (r + 1) t) sound-one) in
-    subst (SoundBlock r) is (record { layout = layout-sound (drop (suc r) t) (rw add-one at sound-one); size = rw (length-map, length-take) (omega arith) })
+    subst (FormedBlock r) is (record { form = layout-sound (drop (suc r) t) (rw add-one at sound-one) .form; size = rw (length-map, length-take) (omega arith) })

@@ -1,7 +1,7 @@
 -- A row moved by a start: `moved`. Assumes nothing.
 use mathlib.Core.Path.{_≡_, refl, sym, ap, _∙_}
-use mathlib.Core.List.{List, [], _∷_}
-use Prim.Native.Nat.{ℕ, zero, suc, _+_, _^_, _<_, _≤_}
+use mathlib.Core.List.{List}
+use Prim.Native.Nat.{ℕ, _+_, _^_, _<_, _≤_}
 use native.Mathlib.Nat.{zero-add}
 use native.Mathlib.Omega.{arith}
 use lib.IntN.{ℤ, pos}
@@ -10,6 +10,7 @@ use lib.Seq.{getD-set-same, getD-set-other, getD-take, ext-getD}
 use Rattle.rules.specs.Limits.{productLimit}
 use Rattle.rules.specs.Concatenate.{movedBy}
 use Rattle.rules.proofs.Order.{ComparedNumbers, under, even, above, compareNumbers}
+use Rattle.rules.proofs.MovedBy.{moved-by-length, moved-by-at}
 use Rattle.cells.specs.View.{view}
 use Rattle.cells.proofs.View.{view-length, view-set}
 use Rattle.tables.specs.Rows.{rowAt}
@@ -71,40 +72,17 @@ pub ruleset moving = (move-start, sum-small, move-turn, move-done)
 
 -- ---- a row that was moved
 
--- it has as many numbers
-pub moved-length : (start row : List ℕ) → length (movedBy start row) ≡ length row
-unfolding movedBy
-moved-length [] row = refl
-moved-length (s ∷ start) [] = refl
-moved-length (s ∷ start) (c ∷ row) = ap suc (moved-length start row)
-
--- each is a sum; a start has zeros behind it
-pub moved-at : (start row : List ℕ) (k : ℕ) → k < length row → getD (movedBy start row) k 0 ≡ getD start k 0 + getD row k 0
-unfolding movedBy
-moved-at [] row k h = sym (zero-add (getD row k 0))
-moved-at (s ∷ start) [] k h = absurd (omega arith)
-moved-at (s ∷ start) (c ∷ row) zero h = refl
-moved-at (s ∷ start) (c ∷ row) (suc k) h = moved-at start row k (omega arith)
-
--- two starts that agree on the numbers of a row move it alike
-pub moved-same : (p q row : List ℕ) → ((k : ℕ) → k < length row → getD p k 0 ≡ getD q k 0) → movedBy p row ≡ movedBy q row
-moved-same p q row f =
-    ext-getD 0 (movedBy p row) (movedBy q row) (moved-length p row ∙ sym (moved-length q row))
-    (λ k l.
-    let h : k < length row = rw (moved-length p row) at l in
-    moved-at p row k h ∙ ap (λ (n : ℕ). n + getD row k 0) (f k h) ∙ sym (moved-at q row k h))
-
 -- what the code made is the row moved by the first n numbers of the start
 pub row-moved : {n w : ℕ} {start : List ℕ} {row sum : List ℤ} → Moved n start row sum → length row ≡ 5 → length sum ≡ 5 → w ≤ 5 →
     rowAt 0 w sum ≡ movedBy (take n start) (rowAt 0 w row)
 row-moved {n} {w} {start} {row} {sum} m l l′ h =
     let a : length (rowAt 0 w row) ≡ w = row-length 0 w row (omega arith) in
     let b : length (rowAt 0 w sum) ≡ w = row-length 0 w sum (omega arith) in
-    ext-getD 0 (rowAt 0 w sum) (movedBy (take n start) (rowAt 0 w row)) (b ∙ sym (moved-length (take n start) (rowAt 0 w row) ∙ a))
+    ext-getD 0 (rowAt 0 w sum) (movedBy (take n start) (rowAt 0 w row)) (b ∙ sym (moved-by-length (take n start) (rowAt 0 w row) ∙ a))
     (λ k o.
     let i : k < w = omega arith in
     seen sum k i ∙ by k (compareNumbers k n) ∙ ap (λ (x : ℕ). getD (take n start) k 0 + x) (sym (seen row k i))
-    ∙ sym (moved-at (take n start) (rowAt 0 w row) k (omega arith)))
+    ∙ sym (moved-by-at (take n start) (rowAt 0 w row) k (omega arith)))
   where
     seen : (s : List ℤ) (k : ℕ) → k < w → getD (rowAt 0 w s) k 0 ≡ getD (view s) k 0
     seen s k i = row-number 0 w k s i ∙ ap (λ (j : ℕ). getD (view s) j 0) (zero-add k)

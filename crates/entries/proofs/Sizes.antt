@@ -31,6 +31,7 @@ use Rattle.rules.proofs.Low.{below-at, rows-low}
 use Rattle.rules.proofs.Forming.{DepOfRank}
 use Rattle.rules.proofs.Changed.{RowBelow, changed-low, changed-of-rank, each-map}
 use Rattle.rules.proofs.Replaced.{fit-length, fit-low}
+use Rattle.rules.proofs.MovedBy.{moved-by-length, moved-by-at, moved-by-same}
 use Rattle.cells.specs.View.{view, Low}
 use Rattle.tables.specs.Rows.{rowAt}
 use Rattle.tables.proofs.Rows.{row-number}
@@ -40,7 +41,7 @@ use Rattle.records.proofs.SoundRecords.{layout-sound, layout-shown}
 use Rattle.entries.specs.declared.entries.Listed.{Listed}
 use Rattle.entries.specs.declared.entries.Listed.the-variants.{Rows, States, Inputs}
 use Rattle.entries.specs.Listing.{fitted, listed, movedList, rowWidth, OfWidth, axesIn, ListAsked, StartLow, MoveAsked, Moved, EntryIs}
-use Rattle.entries.proofs.Shifting.{moved-length, moved-at, moved-same, row-moved}
+use Rattle.entries.proofs.Shifting.{row-moved}
 
 -- ---- rows
 
@@ -197,15 +198,15 @@ module _ {x : Listed} {h : Head} {s : List ℤ} {r w : ℕ} (a : ListAsked x h s
             at-most (above o) = let z = List·getD-eq-default (take n start) 0 {n = k} (simp length-take (omega arith)) in omega arith
 
         past : length (rowOf x r i s) ≤ k → getD (movedBy (take n start) (rowOf x r i s)) k 0 < 2 ^ 31
-        past o = omega (arith, List·getD-eq-default (movedBy (take n start) (rowOf x r i s)) 0 {n = k} (rw moved-length o))
+        past o = omega (arith, List·getD-eq-default (movedBy (take n start) (rowOf x r i s)) 0 {n = k} (rw moved-by-length o))
 
         behind : k < length (rowOf x r i s) → n ≤ k → getD (movedBy (take n start) (rowOf x r i s)) k 0 < 2 ^ 31
         behind o j =
             let z = List·getD-eq-default (take n start) 0 {n = k} (simp length-take (omega arith)) in
-            rw (moved-at (take n start) (rowOf x r i s) k o) (omega (arith, fits .low k))
+            rw (moved-by-at (take n start) (rowOf x r i s) k o) (omega (arith, fits .low k))
 
         by : ComparedNumbers k (length (rowOf x r i s)) → ComparedNumbers k n → getD (movedBy (take n start) (rowOf x r i s)) k 0 < 2 ^ 31
-        by (under o) (under j) = rw (moved-at (take n start) (rowOf x r i s) k o) (omega (arith, start-most, fits .small k (rw (← n-is) j)))
+        by (under o) (under j) = rw (moved-by-at (take n start) (rowOf x r i s) k o) (omega (arith, start-most, fits .small k (rw (← n-is) j)))
         by (under o) (even j) = behind o (omega arith)
         by (under o) (above j) = behind o (omega arith)
         by (even o) j = past (omega arith)
@@ -214,5 +215,5 @@ module _ {x : Listed} {h : Head} {s : List ℤ} {r w : ℕ} (a : ListAsked x h s
     pub entry-moved : EntryIs w (getD (movedList x r (take r start) (layoutIn s)) i []) sum
     entry-moved =
         let e : movedBy (take n start) (rowOf x r i s) ≡ getD (movedList x r (take r start) (layoutIn s)) i [] =
-        moved-same (take n start) (take r start) (rowOf x r i s) cut ∙ sym (map-at (movedBy (take r start)) (listed x r (layoutIn s)) i [] [] (q .1)) in
+        moved-by-same (take n start) (take r start) (rowOf x r i s) cut ∙ sym (map-at (movedBy (take r start)) (listed x r (layoutIn s)) i [] [] (q .1)) in
         record { is = made ∙ e; low = rw e at low }

@@ -19,7 +19,7 @@ use Rattle.rules.specs.Layout.{Layout, rank, few, withinProduct, withinSizes, m
 use Rattle.rules.specs.Soundness.{WellFormed, DepsLow}
 use Rattle.rules.specs.Concatenate.{Block, joinedDeps}
 use Rattle.rules.proofs.Same.{true-not-false}
-use Rattle.rules.proofs.Made.{made-sound}
+use Rattle.rules.proofs.Made.{form-made, made-sound}
 use Rattle.cells.specs.View.{view}
 use Rattle.cells.proofs.View.{view-part}
 use Rattle.tables.specs.Rows.{rowAt}
@@ -33,7 +33,6 @@ use Rattle.parts.specs.Answers.{Says}
 use Rattle.parts.proofs.Copied.{number-copied, part-copied}
 use Rattle.parts.proofs.Lent.{lentOf, backIn, lent-length, lent-again, back-only}
 use Rattle.moving.specs.Sections.{HeadMade}
-use Rattle.blocks.proofs.Formed.{form-made}
 use Rattle.entries.specs.declared.entries.Listed.the-variants.{States, Inputs}
 use Rattle.entries.specs.Merging.{Tabled, joined, blocksOf}
 use Rattle.join.specs.Assembling.{bare, withJoined, Framed, FrameAsked, FrameMade, DepsAsked, DepsMade, CompleteAsked}

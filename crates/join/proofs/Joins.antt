@@ -26,6 +26,8 @@ use Rattle.rules.proofs.Soundness.{OneKind, is-dense, is-diagonal, is-sparse, o
 use Rattle.rules.proofs.Changed.{RowBelow}
 use Rattle.rules.proofs.Made.{made-sound}
 use Rattle.rules.proofs.Replaced.{fit-length}
+use Rattle.rules.proofs.Blocks.{FormedBlocks, rank-one, dense-one, d-low, no-axis, length-reach}
+use Rattle.rules.proofs.ConcatenateMade.{length-dense, form-joined, dense-form, length-diagonal, diagonal-form, rows-form}
 use Rattle.cells.specs.View.{view}
 use Rattle.tables.specs.Rows.{rowAt}
 use Rattle.tables.specs.Tables.{tableAt, Only}
@@ -41,9 +43,8 @@ use Rattle.blocks.specs.declared.deciding.Join.{Join}
 use Rattle.blocks.specs.Blocks.{blocksBy, BlocksAt}
 use Rattle.blocks.specs.Joins.{wayOf, shapeBy, joinOf}
 use Rattle.blocks.proofs.Given.{at-hand, join-given}
-use Rattle.blocks.proofs.Joined.{length-dense, way-named, join-by, join-shape, join-axes}
-use Rattle.blocks.proofs.Formed.{SoundBlocks, form-joined, dense-form, rank-one, dense-one, d-low, length-diagonal, diagonal-form, no-axis, length-reach, rows-form}
-use Rattle.blocks.proofs.Verdicts.{way-diagonal, way-rows, blocks-sound}
+use Rattle.blocks.proofs.Joined.{way-named, join-by, join-shape, join-axes}
+use Rattle.blocks.proofs.Verdicts.{way-diagonal, way-rows, blocks-formed}
 use Rattle.entries.specs.declared.entries.Listed.the-variants.{Rows as RowsOf, States, Inputs}
 use Rattle.entries.specs.Listing.{rowWidth}
 use Rattle.entries.specs.Merging.{blocksOf}
@@ -69,9 +70,9 @@ not-above r blocks n b m = by (any (λ l. ltb r (rank l)) (layoutsOf blocks)) re
     by false e = ltb-false r (rank (b .layout)) (any-none (λ l. ltb r (rank l)) e (Memᴰ·map (λ (c : Block). c .layout) m))
 
 -- blocks that are joined by rows have rows of R - D numbers
-module _ (r : ℕ) (blocks : List Block) (p : SoundBlocks r blocks) (few : r ≤ rankLimit) (w : wayOf r blocks ≡ Rows) where
+module _ (r : ℕ) (blocks : List Block) (p : FormedBlocks r blocks) (w : wayOf r blocks ≡ Rows) where
   row-width : (b : Block) → List·Memᴰ b blocks → r - blocksD blocks ≡ rowWidth (b .layout)
-  row-width b m = by (one-kind (p b m .layout .form))
+  row-width b m = by (one-kind (p b m .form))
     where
       known : agree r blocks ≡ true
       known = way-rows r blocks w .0
@@ -79,15 +80,15 @@ module _ (r : ℕ) (blocks : List Block) (p : SoundBlocks r blocks) (few : r ≤
       whole : (b .layout .kind ≡ 2 → ⊥) → r - blocksD blocks ≡ rowWidth (b .layout)
       whole n =
           let test : isSparse (b .layout) ≡ false = ne-eqb (b .layout .kind) 2 n in
-          let z = no-axis r blocks p few known (way-rows r blocks w .1) b m test in
-          rw test (omega (arith, z, rank-one r blocks p few known b m))
+          let z = no-axis blocks (way-rows r blocks w .1) b m test in
+          rw test (omega (arith, z, rank-one r blocks known b m))
 
       by : OneKind (b .layout) → r - blocksD blocks ≡ rowWidth (b .layout)
       by (is-dense k) = whole (λ e. omega arith)
       by (is-diagonal k) = whole (λ e. omega arith)
       by (is-sparse k) =
           let other : isDense (b .layout) ≡ false = ne-eqb (b .layout .kind) 0 (λ e. omega arith) in
-          rw (eq-eqb (b .layout .kind) 2 k) (omega (arith, rank-one r blocks p few known b m, dense-one r blocks p few known b m other))
+          rw (eq-eqb (b .layout .kind) 2 k) (omega (arith, rank-one r blocks known b m, dense-one r blocks known b m other))
 
 -- four numbers as a slice holds them
 pub extents-seen : (e : List ℕ) {x y z w : ℤ} → length e ≡ 4 → x ≡ pos (getD e 0 0) → y ≡ pos (getD e 1 0) → z ≡ pos (getD e 2 0) → w ≡ pos (getD e 3 0) →
@@ -113,8 +114,8 @@ module _ {r n : ℕ} {places records : List ℕ} {starts : List (List ℕ)} {s t
   a : JoinAsked r n places records starts s t
   a = q .0
 
-  sound : SoundBlocks r its
-  sound = blocks-sound (handed a (q .1))
+  formed : FormedBlocks r its
+  formed = blocks-formed (handed a (q .1))
 
   pub ask-join : BlocksAt n records starts s × (r ≤ rankLimit)
   ask-join = (at-hand (handed a (q .1)), a .rank-most)
@@ -160,7 +161,7 @@ module _ {r n : ℕ} {places records : List ℕ} {starts : List (List ℕ)} {s t
           four = four;
           kind-most = omega arith;
           dense-most = omega (arith, axes-all, length-dense r its);
-          form = rw (dense-shape, axes-all) (form-joined sound (dense (joinedShape r its)) (length-dense r its) (dense-form r its sound (a .rank-most)));
+          form = rw (dense-shape, axes-all) (form-joined formed (dense (joinedShape r its)) (length-dense r its) (dense-form r its (a .rank-most)));
         }
 
         pub dense-said : {u : List ℤ} {step : Step} → Says (made (withJoined r its (bare 0 (j .dense) (rowAt 0 r extents)))) target u step → Says (joinBlocks r its) target u step
@@ -184,11 +185,11 @@ module _ {r n : ℕ} {places records : List ℕ} {starts : List (List ℕ)} {s t
             record {
               deps = deps (λ e. never e .1 named);
               four = four;
-              dense-most = rw line-axes (d-low r its sound (a .rank-most) (known .0));
+              dense-most = rw line-axes (d-low r its (known .0) formed);
               form = rw (line-axes, line-shape)
                   (λ h.
-                  form-joined sound (joinDiagonal r its) (length-diagonal r its sound (a .rank-most) (known .0))
-                  (diagonal-form r its sound (a .rank-most) (known .0) (known .1) h));
+                  form-joined formed (joinDiagonal r its) (length-diagonal r its)
+                  (diagonal-form r its (known .0) formed (known .1) (a .rank-most) h));
             }
 
         pub diagonal-said : {u : List ℤ} {step : Step} → Says (made (withJoined r its (bare 1 (j .dense) (rowAt 0 r extents)))) target u step → Says (joinBlocks r its) target u step
@@ -210,16 +211,16 @@ module _ {r n : ℕ} {places records : List ℕ} {starts : List (List ℕ)} {s t
 
         pub ask-sparse : SparseAsked (j .dense) extents r n places starts s t
         ask-sparse =
-            let form = rows-form r its sound (a .rank-most) agreed (way-rows r its by-rows .1) in
-            let long = length-reach r its sound (a .rank-most) agreed (way-rows r its by-rows .1) in
+            let form = rows-form r its agreed formed (way-rows r its by-rows .1) (a .rank-most) in
+            let long = length-reach r its in
             record {
               deps = deps (λ e. never e .2 by-rows);
-              rows = rw rows-axes (all-asked a RowsOf (λ b m. (rank-one r its sound (a .rank-most) agreed b m, row-width r its sound (a .rank-most) by-rows b m)));
+              rows = rw rows-axes (all-asked a RowsOf (λ b m. (rank-one r its agreed b m, row-width r its formed by-rows b m)));
               four = four;
-              dense-most = rw rows-axes (d-low r its sound (a .rank-most) agreed);
+              dense-most = rw rows-axes (d-low r its agreed formed);
               form = rw (rows-axes, rows-shape) form;
               small = rw (rows-axes, rows-shape) (rows-small (blocksD its) (joinedRows r its .shape) r its form long);
-              joins = form-joined sound;
+              joins = form-joined formed;
             }
 
         pub rows-said : {u : List ℤ} {step : Step} → Says (byRows (j .dense) (rowAt 0 r extents) r its) target u step → Says (joinBlocks r its) target u step

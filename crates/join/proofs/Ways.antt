@@ -23,6 +23,7 @@ use Rattle.rules.specs.CountsAndForms.{toDense, denseIfFull}
 use Rattle.rules.specs.Concatenate.{Block}
 use Rattle.rules.proofs.Same.{true-not-false}
 use Rattle.rules.proofs.Sets.{each-nil}
+use Rattle.rules.proofs.Made.{form-made}
 use Rattle.rules.proofs.Forming.{DepOfRank, DepsOfRank, Framed as Forms, to-dense-framed, bad-diagonal-made}
 use Rattle.cells.specs.View.{view}
 use Rattle.cells.proofs.View.{view-length, view-set}
@@ -34,7 +35,6 @@ use Rattle.tables.proofs.Tables.{table-length}
 use Rattle.tables.proofs.Made.{emptied}
 use Rattle.parts.specs.Parts.{windowSize, target, spare, extentsFrom, rowsFrom, layoutAt}
 use Rattle.parts.specs.Answers.{Says}
-use Rattle.blocks.proofs.Formed.{form-made}
 use Rattle.entries.specs.declared.entries.Listed.the-variants.{Rows}
 use Rattle.entries.specs.Merging.{Tabled, joined, blocksOf}
 use Rattle.join.specs.Assembling.{bare, sparseOf, withJoined, byRows, Framed, FrameAsked, FrameMade, DepsAsked, CompleteAsked, BareAsked, DiagonalAsked, RowsAsked, RowsMade, SparseAsked}

@@ -25,6 +25,7 @@ use Rattle.rules.specs.Arguments.{overCount, overRank, overRecord, overShape}
 use Rattle.rules.specs.Endings.{Ends}
 use Rattle.rules.specs.Concatenate.{goodBlock, blockOf, concatenate}
 use Rattle.rules.proofs.Same.{neither, both-true}
+use Rattle.rules.proofs.ConcatenateRefused.{concatenate-refusing}
 use Rattle.tables.proofs.Only.{only-wider}
 use Rattle.parts.specs.Parts.{windowSize, target}
 use Rattle.parts.specs.Answers.{Says, Finished}
@@ -44,7 +45,6 @@ use Rattle.judging.specs.LentSizes.{sizeReasons, SizesKept, SizesRefused, Sizes
 use Rattle.judging.proofs.Judged.{reason-holds, reason-passed}
 use Rattle.judging.proofs.LentSizes.{kept-sizes, refused-sizes}
 use Rattle.judging.proofs.Endings.{ends-early, ends-late, ends-done}
-use Rattle.blocks.proofs.Answers.{concatenate-refusing}
 use Rattle.entries.specs.Merging.{blocksOf}
 use Rattle.join.specs.Assembling.{JoinAsked}
 

@@ -6,8 +6,8 @@ use Prim.Native.Nat.{ℕ, zero, suc, _+_, _-_, _^_, _<_, _≤_}
 use native.Mathlib.Nat.{zero-add}
 use native.Mathlib.Numerals.{add-one}
 use native.Mathlib.Omega.{arith}
-use borrow.Author.Tests.{lt-ltb, le-ltb, ltb-true, ltb-false, not-true, not-false}
-use lib.Dec.{ltb, eqb}
+use borrow.Author.Tests.{lt-ltb, le-ltb, not-true, not-false}
+use lib.Dec.{eqb}
 use lib.IntN.{ℤ}
 use lib.ListN.{length, getD, take, drop, length-map, drop-of-length-le}
 use lib.Seq.{drop-cons}
@@ -17,6 +17,7 @@ use Rattle.rules.specs.Record.{shapeIn}
 use Rattle.rules.specs.Arguments.{overShape}
 use Rattle.rules.specs.Shapes.{extents, commonExtent, axisAgrees, shapesAgree, commonShape}
 use Rattle.rules.proofs.Ranges.{from-length, from-at}
+use Rattle.rules.proofs.Largest.{larger-is}
 use Rattle.rules.proofs.Tests.{all-at}
 use Rattle.cells.specs.View.{Low}
 use Rattle.tables.proofs.Passing.{Passed, none-passed, one-more, one-fails, all-passed}
@@ -44,19 +45,6 @@ pub ruleset larger-laws = (larger-second, larger-first)
 pub zero-larger : (x : ℕ) → larger 0 x ≡ x
 zero-larger zero = refl
 zero-larger (suc x) = rw (lt-ltb 0 (suc x) (omega arith))
-
--- the larger one is one of both, and neither is above it
-pub record Larger (x y z : ℕ) : Type 0 where
-  pub first : x ≤ z
-  pub second : y ≤ z
-  pub least : (m : ℕ) → x ≤ m → y ≤ m → z ≤ m
-
-pub larger-is : (x y : ℕ) → Larger x y (larger x y)
-larger-is x y = by (ltb x y) refl
-  where
-    by : (t : Bool) → ltb x y ≡ t → Larger x y (larger x y)
-    by true e = let h = ltb-true x y e in rw e (record { first = omega arith; second = omega arith; least = λ m p q. q })
-    by false e = let h = ltb-false x y e in rw e (record { first = omega arith; second = omega arith; least = λ m p q. p })
 
 pub larger-assoc : (x y z : ℕ) → larger (larger x y) z ≡ larger x (larger y z)
 larger-assoc x y z =

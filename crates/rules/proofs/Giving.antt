@@ -1,10 +1,10 @@
 -- What holds of the answer that a verdict gives, if it gives one. Assumes nothing.
 use mathlib.Core.Path.{_≡_, refl, subst}
 use mathlib.Core.Bool.{Bool, true, false}
-use mathlib.Core.List.{List}
+use mathlib.Core.List.{List, [], _∷_}
 use Prim.Native.Nat.{ℕ}
 use Rattle.rules.specs.Lists.{if}
-use Rattle.rules.specs.Refusals.{Verdict, given, refused, inForm, _then_, Reason, lowest}
+use Rattle.rules.specs.Refusals.{Verdict, given, refused, inForm, _then_, Reason, _when_, lowest}
 use Rattle.rules.specs.Layout.{Layout, made}
 use Rattle.rules.specs.Soundness.{Sound}
 use Rattle.rules.proofs.Made.{made-sound}
@@ -36,6 +36,12 @@ module _ {A : Type 0} (P : A → Type 0) where
       by : (r : Verdict Unit) → Giving P (r then λ _. v)
       by (given t) = p
       by (refused n) = tt
+
+  -- behind one reason, which does not hold then
+  pub giving-unless : (n : ℕ) (test : Bool) (v : Verdict A) → (test ≡ false → Giving P v) → Giving P (lowest (n when test ∷ []) then λ _. v)
+  unfolding lowest
+  giving-unless n true v p = tt
+  giving-unless n false v p = p refl
 
   -- another form of the answer
   pub giving-form : {B : Type 0} (f : B → A) (v : Verdict B) → Giving (λ b. P (f b)) v → Giving P (inForm f v)

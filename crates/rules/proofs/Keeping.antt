@@ -1,25 +1,35 @@
--- Rows that are kept by a test. Assumes nothing.
+-- What is kept of a list by a test, and rows that are. Assumes nothing.
 use mathlib.Core.Path.{_≡_, refl, sym, ap, _∙_}
 use mathlib.Core.Bool.{Bool, true, false}
-use mathlib.Core.List.{List, [], _∷_, List·Memᴰ·head, List·Memᴰ·tail}
+use mathlib.Core.List.{List, [], _∷_, List·Memᴰ, List·Memᴰ·head, List·Memᴰ·tail}
 use Prim.Native.Nat.{ℕ, _≤_}
 use native.Mathlib.Omega.{arith}
 use lib.ListN.{length}
 use Rattle.rules.specs.Lists.{keep}
-use Rattle.rules.specs.RowsInOrder.{In, Each, Increasing, increasing-nil, increasing-cons}
+use Rattle.rules.specs.RowsInOrder.{Each, Increasing, increasing-nil, increasing-cons}
 use Rattle.rules.proofs.Sets.{each-nil, each-cons, Subset}
 
-module _ (test : List ℕ → Bool) where
-  -- a row that passes is kept
-  pub keep-pass : {x : List ℕ} (t : List (List ℕ)) → test x ≡ true → keep test (x ∷ t) ≡ x ∷ keep test t
+module _ {A : Type 0} (test : A → Bool) where
+  -- what passes is kept
+  pub keep-pass : {x : A} (t : List A) → test x ≡ true → keep test (x ∷ t) ≡ x ∷ keep test t
   unfolding keep
   keep-pass t e = rw e
 
-  -- a row that fails is not kept
-  pub keep-fail : {x : List ℕ} (t : List (List ℕ)) → test x ≡ false → keep test (x ∷ t) ≡ keep test t
+  -- what fails is not kept
+  pub keep-fail : {x : A} (t : List A) → test x ≡ false → keep test (x ∷ t) ≡ keep test t
   unfolding keep
   keep-fail t e = rw e
 
+  -- every element that passes is kept
+  pub keep-has : {x : A} {t : List A} → List·Memᴰ x t → test x ≡ true → List·Memᴰ x (keep test t)
+  keep-has {x} (List·Memᴰ·head {x = y} {xs = t} e) p = rw (keep-pass t (ap test (sym e) ∙ p)) (List·Memᴰ·head e)
+  keep-has {x} (List·Memᴰ·tail {x = y} {xs = t} m) p = go (test y) refl (keep-has m p)
+    where
+      go : (b : Bool) → test y ≡ b → List·Memᴰ x (keep test t) → List·Memᴰ x (keep test (y ∷ t))
+      go true e rest = rw keep-pass (List·Memᴰ·tail rest)
+      go false e rest = rw keep-fail rest
+
+module _ (test : List ℕ → Bool) where
   -- the rows that are kept are among the rows
   pub keep-only : (t : List (List ℕ)) → Subset (keep test t) t
   unfolding keep
@@ -38,15 +48,6 @@ module _ (test : List ℕ → Bool) where
     where
       go : (b : Bool) → test x ≡ b → Each (λ r. test r ≡ true) (keep test t) → Each (λ r. test r ≡ true) (keep test (x ∷ t))
       go true e rest = rw keep-pass (each-cons e rest)
-      go false e rest = rw keep-fail rest
-
-  -- every row that passes is kept
-  pub keep-has : {x : List ℕ} {t : List (List ℕ)} → In x t → test x ≡ true → In x (keep test t)
-  keep-has {x} (List·Memᴰ·head {x = y} {xs = t} e) p = rw (keep-pass t (ap test (sym e) ∙ p)) (List·Memᴰ·head e)
-  keep-has {x} (List·Memᴰ·tail {x = y} {xs = t} m) p = go (test y) refl (keep-has m p)
-    where
-      go : (b : Bool) → test y ≡ b → In x (keep test t) → In x (keep test (y ∷ t))
-      go true e rest = rw keep-pass (List·Memᴰ·tail rest)
       go false e rest = rw keep-fail rest
 
   -- the rows that are kept increase if the rows do

@@ -3,7 +3,7 @@
 --     Buffers, Writes                                              parts of a slice, and what was written there
 --     Tests, Soundness, Extents                                    what a sound layout is, part by part
 --     RowsRead, Sections, Encoded, Walked, ReadBack                the record of a layout, and the layout of a record
---     Ranges, Indices                                              every index of a shape, in order
+--     Ranges, Largest, Indices                                     numbers in a row, the largest of some, every index of a shape in order
 --     Before, Alike, Finding, Holding, Found, Counting             what is held, found and counted
 --     Made, Forming, Changed                                       a layout that is made: when it is formed, kind by kind
 --     DenseRemoved, Once, Lowering, Listed,
@@ -14,6 +14,7 @@
 --     StretchedHolds, Full, IntersectHolds, ContractedHolds,
 --     PermutedHolds                                                what is held then
 --     Giving, Unchanged, Folding, BroadcastEnds, BroadcastHolds    a broadcast: what is stretched, folded in order, its end, and what it holds
+--     MovedBy, Blocks, ConcatenateMade, JoinHolds                  blocks: what is moved by a start, what they have in common, what is made of them, and what a join holds
 --     Calls                                                        what calls answer of sound records
 --     Piled, PiledPairs, Summing, ExchangeMade, ExchangeKeeps,
 --     Piles                                                        the pile: any exchanges keep its counts
@@ -21,7 +22,8 @@
 --     PileByHand                                                   a pile exchanged by hand
 --     Determined                                                   two outcomes that a contract allows are equal
 --     WorkedByHand, Examples                                       the table, and examples of every operation
---     Refusing, RefusedWith, BroadcastRefused, Never14             which numbers are given, and that 14 never is
+--     Refusing, RefusedWith, BroadcastRefused,
+--     ConcatenateRefused, Never14                                  which numbers are given, and that 14 never is
 pub mod Order
 pub mod Same
 pub mod Sets
@@ -41,6 +43,7 @@ pub mod Encoded
 pub mod Walked
 pub mod ReadBack
 pub mod Ranges
+pub mod Largest
 pub mod Indices
 pub mod Before
 pub mod Alike
@@ -91,10 +94,15 @@ pub mod Unchanged
 pub mod Folding
 pub mod BroadcastEnds
 pub mod BroadcastHolds
+pub mod MovedBy
+pub mod Blocks
+pub mod ConcatenateMade
+pub mod JoinHolds
 pub mod Determined
 pub mod WorkedByHand
 pub mod Refusing
 pub mod RefusedWith
 pub mod BroadcastRefused
+pub mod ConcatenateRefused
 pub mod Never14
 mod Examples

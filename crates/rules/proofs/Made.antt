@@ -1,5 +1,5 @@
 -- A layout made on the way: where its form is known, only the counts are left to judge. Assumes nothing.
-use mathlib.Core.Path.{_≡_, refl}
+use mathlib.Core.Path.{_≡_, refl, _∙_}
 use mathlib.Core.Bool.{Bool, true, false, not, _&&_}
 use mathlib.Core.List.{List, [], _∷_, _++_}
 use Prim.Native.Nat.{ℕ, _≤_}
@@ -22,6 +22,19 @@ use Rattle.rules.proofs.Soundness.{true-deps-small, well-formed-true, t
 -- the layout, or 13 if one of its lists passes the limit
 abbrev pub fewOr : Layout → Verdict Layout
 fewOr l = if (few (l .rows) && few (l .states) && few (l .inputs)) (given l) (refused 13)
+
+-- a layout, or 13 if it passes a limit of size
+abbrev pub sizedOr : Layout → Verdict Layout
+sizedOr l = if (withinSizes l) (given l) (refused 13)
+
+-- a well-formed layout that is made is given unless it passes a limit of size
+pub form-made : {l : Layout} → WellFormed l → made l ≡ sizedOr l
+unfolding made lowest
+form-made {l} f = rw (true-well-formed f) (by (withinSizes l))
+  where
+    by : (t : Bool) → (lowest (13 when not t ∷ []) then λ _. given l) ≡ if t (given l) (refused 13)
+    by true = refl
+    by false = refl
 
 -- sound but for the counts of its lists
 pub record Formed (l : Layout) : Type 0 where
@@ -55,12 +68,7 @@ formed-sizes {l} f =
 
 -- made, it is given unless a list passes the limit
 pub formed-made : {l : Layout} → Formed l → made l ≡ fewOr l
-unfolding made lowest
-formed-made {l} f = rw (true-well-formed (f .form), formed-sizes f) (judged (few (l .rows) && few (l .states) && few (l .inputs)))
-  where
-    judged : (t : Bool) → (lowest (13 when not t ∷ []) then λ _. given l) ≡ if t (given l) (refused 13)
-    judged true = refl
-    judged false = refl
+formed-made f = form-made (f .form) ∙ rw (formed-sizes f)
 
 -- a layout that is made is sound
 pub made-sound : {l l′ : Layout} → made l ≡ given l′ → (l ≡ l′) × Sound l

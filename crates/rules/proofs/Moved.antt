@@ -5,11 +5,11 @@ use mathlib.Core.List.{List, [], _∷_, map}
 use Prim.Native.Nat.{ℕ, zero, suc, _≤_, _<_}
 use native.Mathlib.Nat.{one-mul, le-trans}
 use native.Mathlib.Omega.{arith}
-use borrow.Author.Tests.{ltb-true, ltb-false, lt-ltb, eqb-true, eqb-false, eq-eqb, ne-eqb}
+use borrow.Author.Tests.{ltb-true, lt-ltb, eqb-true, eqb-false, eq-eqb, ne-eqb}
 use lib.Dec.{eqb, ltb}
 use lib.ListN.{length, getD, length-map}
 use lib.Seq.{ext-getD}
-use Rattle.rules.specs.Lists.{if, any, keep, product, from, below, larger, largest, allBelow}
+use Rattle.rules.specs.Lists.{if, any, keep, product, from, below, largest, allBelow}
 use Rattle.rules.specs.Layout.{nonzeroProduct}
 use Rattle.rules.specs.CountsAndForms.{minRankOf}
 use Rattle.rules.specs.Permute.{repeats, movedTo, moved}
@@ -18,6 +18,7 @@ use Rattle.rules.proofs.Same.{both-true, neither}
 use Rattle.rules.proofs.Tests.{true-both}
 use Rattle.rules.proofs.Extents.{nonzero-pos, nonzero-cons, nonzero-more-axes, nonzero-swap}
 use Rattle.rules.proofs.Ranges.{from-length, from-at, map-at}
+use Rattle.rules.proofs.Largest.{largest-at}
 use Rattle.rules.proofs.Low.{below-at}
 use Rattle.rules.proofs.Changed.{RowBelow}
 
@@ -137,21 +138,6 @@ unfolding moved
 moved-product entries shape = moved-from entries shape 0 (suc (largest entries))
 
 -- ---- nothing is lost
-
--- two numbers are at most the larger of them
-larger-most : (x y : ℕ) → (x ≤ larger x y) × (y ≤ larger x y)
-larger-most x y = by (ltb x y) refl
-  where
-    by : (t : Bool) → ltb x y ≡ t → (x ≤ if t y x) × (y ≤ if t y x)
-    by true e = let h = ltb-true x y e in omega arith
-    by false e = let h = ltb-false x y e in omega arith
-
--- each entry is at most the largest
-pub largest-at : (entries : List ℕ) (i : ℕ) → getD entries i 0 ≤ largest entries
-unfolding largest
-largest-at [] i = omega arith
-largest-at (p ∷ entries) zero = larger-most p (largest entries) .0
-largest-at (p ∷ entries) (suc i) = le-trans (largest-at entries i) (larger-most p (largest entries) .1)
 
 -- where no element passes, the one at an index does not
 none-at : (test : ℕ → Bool) (l : List ℕ) → any test l ≡ false → (i : ℕ) → i < length l → test (getD l i 0) ≡ false

@@ -22,7 +22,8 @@ use Rattle.rules.proofs.Ranges.{map-at}
 use Rattle.rules.proofs.Alike.{alike-at, at-alike}
 use Rattle.rules.proofs.Low.{below-at, at-below}
 use Rattle.rules.proofs.Holding.{Position, true-position, holds-position, holds-dense, sparse-true, true-sparse, Whole, whole-dense, whole-diagonal, whole-sparse, whole-front, diagonal-rank, diagonal-extents, held-alike}
-use Rattle.rules.proofs.Moved.{moved-length, moved-at, moved-low, moved-below, largest-at, moved-to-entry, past-min-rank}
+use Rattle.rules.proofs.Largest.{largest-at}
+use Rattle.rules.proofs.Moved.{moved-length, moved-at, moved-low, moved-below, moved-to-entry, past-min-rank}
 use Rattle.rules.proofs.Permuting.{Usable, staysDiagonal}
 use Rattle.rules.proofs.Replaced.{fit-length, fit-at, fit-past}
 

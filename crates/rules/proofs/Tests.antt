@@ -1,12 +1,12 @@
 -- What tests over lists tell, and how one is shown to hold. Assumes nothing.
-use mathlib.Core.Path.{_≡_, refl, ap, _∙_}
+use mathlib.Core.Path.{_≡_, refl, sym, ap, _∙_}
 use mathlib.Core.Bool.{Bool, true, false, _&&_, _||_}
 use mathlib.Core.List.{List, [], _∷_, List·Memᴰ, List·Memᴰ·head, List·Memᴰ·tail}
 use Prim.Native.Nat.{ℕ, zero, suc, _<_}
 use native.Mathlib.Omega.{arith}
 use lib.ListN.{length, getD}
-use Rattle.rules.specs.Lists.{implies, all, none}
-use Rattle.rules.proofs.Same.{both-true}
+use Rattle.rules.specs.Lists.{implies, all, any, none}
+use Rattle.rules.proofs.Same.{both-true, true-not-false}
 
 -- ---- tests in a row
 
@@ -69,3 +69,19 @@ module _ {A : Type 0} (test : A → Bool) where
   all-at [] d e k h = absurd (omega arith)
   all-at (x ∷ l) d e zero h = both-true (test x) (all test l) e .0
   all-at (x ∷ l) d e (suc k) h = all-at l d (both-true (test x) (all test l) e .1) k (omega arith)
+
+  -- where some element passes, there is one that does
+  pub any-true : (l : List A) → any test l ≡ true → (x : A) × List·Memᴰ x l × (test x ≡ true)
+  unfolding any
+  any-true [] e = absurd (true-not-false e refl)
+  any-true (y ∷ l) e = by (test y) refl (any-true l) e
+    where
+      by : (t : Bool) → test y ≡ t → (any test l ≡ true → (x : A) × List·Memᴰ x l × (test x ≡ true)) → t || any test l ≡ true → (x : A) × List·Memᴰ x (y ∷ l) × (test x ≡ true)
+      by true f rest h = (y, List·Memᴰ·head refl, f)
+      by false f rest h = let k = rest h in (k .0, List·Memᴰ·tail (k .1), k .2)
+
+  -- where an element passes, some does
+  pub true-any : {x : A} {l : List A} → List·Memᴰ x l → test x ≡ true → any test l ≡ true
+  unfolding any
+  true-any (List·Memᴰ·head d) e = rw (ap test (sym d) ∙ e)
+  true-any (List·Memᴰ·tail {x = y} {xs = l} m) e = true-either (test y) (any test l) (λ _. true-any m e)

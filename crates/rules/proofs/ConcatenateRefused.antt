@@ -7,30 +7,32 @@ use native.Mathlib.Omega.{arith}
 use lib.Dec.{ltb}
 use lib.ListN.{length, getD, drop, length-append, length-drop, List·getD-eq-default}
 use lib.Seq.{getD-drop}
 use Rattle.rules.specs.Limits.{componentLimit}
 use Rattle.rules.specs.Lists.{if, all, any, none, keep, product, fitTo}
 use Rattle.rules.specs.RowsInOrder.{sorted, increasing, Each}
 use Rattle.rules.specs.Refusals.{Verdict, given, refused, _then_, _when_, lowest}
-use Rattle.rules.specs.Layout.{Layout, rank, isDense, isSparse, withDeps, made, soundLayout, wellFormed, withinSizes, withinProduct}
+use Rattle.rules.specs.Layout.{Layout, rank, isDense, isSparse, made, soundLayout, wellFormed, withinSizes, withinProduct}
 use Rattle.rules.specs.Soundness.{Sound, DepsLow}
 use Rattle.rules.specs.Dependencies.{indexOf, onIndex}
 use Rattle.rules.specs.CountsAndForms.{dense, newScalar, denseIfFull}
 use Rattle.rules.specs.Concatenate.{Block, layoutsOf, shapesOf, runOnFirst, runOnDiagonal, laterAgree, joinDense, blocksD, agree, allDiagonal, movedBy, joinedRows, joinSparse, joinOther, joinedDeps, joinBlocks, concatenate}
 use Rattle.rules.proofs.Order.{ComparedNumbers, under, even, above, compareNumbers}
 use Rattle.rules.proofs.Sets.{each-nil}
 use Rattle.rules.proofs.Refusing.{Refusing, refusing-if, refusing-then, refusing-form, refusing-made}
 use Rattle.rules.proofs.RefusedWith.{refusing-step}
 use Rattle.rules.proofs.Gathering.{gather-each}
 use Rattle.rules.proofs.Sorting.{sorted-each}
 use Rattle.rules.proofs.Soundness.{sound-true}
 use Rattle.rules.proofs.Changed.{each-map}
 use Rattle.rules.proofs.Made.{made-sound}
 use Rattle.rules.proofs.Unions.{never}
+use Rattle.rules.proofs.ConcatenateMade.{joinedFull}
 
 -- ---- refusals
 
 -- 10, 12 and 13
 module _ (P : ℕ → Type 0) (p10 : P 10) (p12 : P 12) (p13 : P 13) where
+  -- of the join without dependencies
   refusing-join : (r : ℕ) (blocks : List Block) → Refusing P (if (all isDense (layoutsOf blocks) && runOnFirst r blocks) (joinDense r blocks) (joinOther r blocks))
   unfolding joinDense joinOther joinSparse
   refusing-join r blocks =
@@ -41,27 +43,29 @@ module _ (P : ℕ → Type 0) (p10 : P 10) (p12 : P 12) (p13 : P 13) where
       (λ _. refusing-step P (10 when (ltb 0 (blocksD blocks) && not (all isSparse (layoutsOf blocks))) ∷ []) (p10, tt) _
       (refusing-form P denseIfFull (made (joinedRows r blocks)) (refusing-made P p12 p13 (joinedRows r blocks))))))
 
+  -- of the whole
   pub concatenate-refusing : (blocks : List Block) (r : ℕ) → Refusing P (concatenate blocks r)
   unfolding concatenate joinBlocks
   concatenate-refusing blocks r =
       refusing-if P (none blocks) _ _ (λ _. tt)
       (λ _. refusing-step P (10 when any (λ l. ltb r (rank l)) (layoutsOf blocks) ∷ []) (p10, tt) _
       (refusing-then P (if (all isDense (layoutsOf blocks) && runOnFirst r blocks) (joinDense r blocks) (joinOther r blocks))
-      (λ l. made (withDeps (joinedDeps r (λ x. x .states) blocks) (joinedDeps r (λ x. x .inputs) blocks) l)) (refusing-join r blocks)
-      (λ l. refusing-made P p12 p13 (withDeps (joinedDeps r (λ x. x .states) blocks) (joinedDeps r (λ x. x .inputs) blocks) l))))
+      (λ l. made (joinedFull r blocks l)) (refusing-join r blocks)
+      (λ l. refusing-made P p12 p13 (joinedFull r blocks l))))
 
 -- ---- what is given
 
 -- the layout that was made with the dependencies of all blocks
 pub record WasJoined (r : ℕ) (blocks : List Block) (x : Layout) : Type 0 where
   pub whole : Layout
-  pub was-made : made (withDeps (joinedDeps r (λ l. l .states) blocks) (joinedDeps r (λ l. l .inputs) blocks) whole) ≡ given x
+  pub was-made : made (joinedFull r blocks whole) ≡ given x
 
 -- where two steps are given, the second one is
 then-given : {A : Type 0} (v : Verdict A) (next : A → Verdict Layout) {x : Layout} → (v then next) ≡ given x → (a : A) × (next a ≡ given x)
 then-given (given a) next e = (a, e)
 then-given (refused n) next e = absurd (never e)
 
+-- what blocks are joined to was so made
 join-given : (r : ℕ) (blocks : List Block) {x : Layout} → joinBlocks r blocks ≡ given x → WasJoined r blocks x
 unfolding joinBlocks
 join-given r blocks e =
