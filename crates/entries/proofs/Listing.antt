@@ -2,7 +2,7 @@
 use mathlib.Core.Path.{_≡_, refl, sym, ap, _∙_}
 use mathlib.Core.Bool.{Bool, true, false}
 use mathlib.Core.List.{List, [], map}
-use Prim.Native.Nat.{ℕ, zero, suc, _+_, _*_, _-_, _^_, _<_, _≤_}
+use Prim.Native.Nat.{ℕ, _+_, _*_, _^_, _<_, _≤_}
 use native.Mathlib.Nat.{zero-add}
 use native.Mathlib.Omega.{arith}
 use lib.IntN.{ℤ, pos}
@@ -26,7 +26,7 @@ use Rattle.rules.proofs.Extents.{extent-limited}
 use Rattle.cells.specs.View.{view}
 use Rattle.cells.proofs.View.{view-part, view-pos}
 use Rattle.tables.specs.Rows.{rowAt, rowsAt}
-use Rattle.tables.proofs.Rows.{row-length, row-of, row-ends, length-rows}
+use Rattle.tables.proofs.Rows.{row-length, row-of, row-ends, length-rows, five, five-row}
 use Rattle.axes.specs.Extents.{IndexAsked}
 use Rattle.axes.proofs.Indices.{none-zero, unravel-length, unravel-position}
 use Rattle.records.specs.Sound.{SoundRecord}
@@ -34,7 +34,6 @@ use Rattle.records.proofs.Layouts.{axes, rows-room, has-states, has-inputs}
 use Rattle.records.proofs.SoundRecords.{lies, layout-sound, layout-shown}
 use Rattle.lookups.proofs.SoundRecords.{record-shape, record-extents}
 use Rattle.lookups.proofs.Counting.{kind-read, kind-sparse}
-use Rattle.lowering.proofs.Diagonals.{five}
 use Rattle.stretch.specs.Tables.{FitAsked}
 use Rattle.entries.specs.declared.entries.Listed.{Listed}
 use Rattle.entries.specs.declared.entries.Listed.the-variants.{Rows, States, Inputs}
@@ -52,16 +51,6 @@ rows-count l = by (isDense l) (isDiagonal l) refl refl
     by false false e f = rw (e, f)
 
 -- ---- the rows of a record: `row_of`
-
--- the first of five equal numbers
-five-row : (w i : ℕ) → w ≤ 4 → rowAt 0 w (five (pos i)) ≡ replicate w i
-unfolding part view
-five-row zero i h = refl
-five-row (suc zero) i h = refl
-five-row (suc (suc zero)) i h = refl
-five-row (suc (suc (suc zero))) i h = refl
-five-row (suc (suc (suc (suc zero)))) i h = refl
-five-row (suc (suc (suc (suc (suc w))))) i h = absurd (omega arith)
 
 module _ {h : Head} {s : List ℤ} (q : SoundRecord h s) where
   pub rank-is : rank (layoutIn s) ≡ h .rank

@@ -1,6 +1,6 @@
 -- `permute_into`: each arm writes the front of the permuted layout, and its dependencies are moved. Assumes nothing.
 use mathlib.Core.Path.{_≡_, refl, sym, ap, _∙_, subst}
-use mathlib.Core.Bool.{Bool, true, false, not, _&&_}
+use mathlib.Core.Bool.{Bool, true, false, not, _&&_, and-false}
 use mathlib.Core.List.{List, [], _∷_, _++_, map}
 use mathlib.Core.Logic.{inl}
 use Prim.Native.Nat.{ℕ, zero, suc, _+_, _-_, _<_, _≤_}
@@ -42,6 +42,7 @@ use Rattle.rules.specs.declared.Step.{Step}
 use Rattle.rules.specs.Arguments.{upTo}
 use Rattle.rules.specs.CountsAndForms.{minRank, minRankOf}
 use Rattle.rules.proofs.Given.{permute-sound, permute-low}
+use Rattle.rules.proofs.Tests.{none-empty}
 use Rattle.lookups.proofs.SoundRecords.{lent-shape}
 use Rattle.parts.specs.Answers.{Says, Loaded}
 use Rattle.moving.proofs.Sections.{head-stays, table-stays, assembled, says-made, says-refused}
@@ -309,15 +310,6 @@ all-four true true c d = refl
 all-four true false c d = refl
 all-four false b c d = refl
 
-and-no : (a : Bool) → a && false ≡ false
-and-no true = refl
-and-no false = refl
-
-no-entries : (entries : List ℤ) → length entries ≡ 0 → none entries ≡ true
-unfolding none
-no-entries [] e = refl
-no-entries (z ∷ entries) e = absurd (omega arith)
-
 some-entries : (entries : List ℤ) → (length entries ≡ 0 → ⊥) → none entries ≡ false
 unfolding none
 some-entries [] d = absurd (d refl)
@@ -344,12 +336,12 @@ module _ {h : Head} {s : List ℤ} (r : SoundRecord h s) (entries : List ℤ) wh
     pub too-few : {t : List ℤ} → length entries < n → Says (permute (layoutIn s) entries) 0 t (Refused NoPermutation)
     too-few g =
         unusable-says
-        (permutation-is ∙ rw (lt-ltb (length entries) (minRank (layoutIn s)) (omega (arith, min-is)), and-no (not (ltb (rank (layoutIn s)) (length entries)))) refl)
+        (permutation-is ∙ rw (lt-ltb (length entries) (minRank (layoutIn s)) (omega (arith, min-is)), and-false (not (ltb (rank (layoutIn s)) (length entries)))) refl)
 
     module _ (enough : n ≤ length entries) {named : Bool} {most : ℕ} {places : List ℕ} (m : MovesAre entries named most places) where
       -- an entry that names no axis, or one twice
       pub unnamed-says : {t : List ℤ} → not named ≡ true → Says (permute (layoutIn s) entries) 0 t (Refused NoPermutation)
-      unnamed-says g = unusable-says (permutation-is ∙ rw (← m .named-is, not-true named g) (and-no (not (ltb (rank (layoutIn s)) (length entries)) && not (ltb (length entries) (minRank (layoutIn s))))))
+      unnamed-says g = unusable-says (permutation-is ∙ rw (← m .named-is, not-true named g) (and-false (not (ltb (rank (layoutIn s)) (length entries)) && not (ltb (length entries) (minRank (layoutIn s))))))
 
       module _ (g : not named ≡ false) where
         is-named : named ≡ true
@@ -362,7 +354,7 @@ module _ {h : Head} {s : List ℤ} (r : SoundRecord h s) (entries : List ℤ) wh
 
         -- none: a copy
         pub empty-says : {t : List ℤ} → length entries ≡ 0 → Loaded s t → Says (permute (layoutIn s) entries) 0 t Done
-        empty-says z d = says-made (permute-empty (layoutIn s) entries usable (no-entries entries z)) (d .layout) (layout-sound r) (deps-low r) (omega (arith, d .holds .inside))
+        empty-says z d = says-made (permute-empty (layoutIn s) entries usable (none-empty entries z)) (d .layout) (layout-sound r) (deps-low r) (omega (arith, d .holds .inside))
 
         -- some: the axes are moved
         pub ask-move : {t : List ℤ} → partSize ≤ length t → MoveAsked h most s t
