@@ -35,7 +35,7 @@ use Rattle.fold.specs.Ended.{BareAsked, bareOf, Bared, SparseEnd}
 use Rattle.rules.proofs.BroadcastEnds.{diagonal-sound, end-other, end-full, end-scalar, end-stays, end-diagonal}
 use Rattle.rules.proofs.Forming.{to-dense-sound}
 use Rattle.cells.proofs.View.{stored-number}
-use Rattle.fold.proofs.Steps.{says-refused}
+use Rattle.parts.proofs.Saying.{says-refused}
 
 -- ---- `bare`
 

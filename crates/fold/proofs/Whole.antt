@@ -37,8 +37,8 @@ use Rattle.fold.specs.Stretched.{extentsOf, ShapeFits, ShapeIs, RankFew,
 use Rattle.fold.specs.Folded.{broadcastTo}
 use Rattle.rules.proofs.Giving.{Giving, given-such}
 use Rattle.rules.proofs.Replaced.{fit-length, fit-low}
+use Rattle.parts.proofs.Saying.{says-refused, refused-said, done-said}
 use Rattle.fold.proofs.Bringing.{all-stretched, all-bringable}
-use Rattle.fold.proofs.Steps.{says-refused, refused-said, done-said}
 
 -- ---- `stretch_and_fold`
 

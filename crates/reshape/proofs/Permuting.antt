@@ -45,7 +45,8 @@ use Rattle.rules.proofs.Given.{permute-sound, permute-low}
 use Rattle.rules.proofs.Tests.{none-empty}
 use Rattle.lookups.proofs.SoundRecords.{lent-shape}
 use Rattle.parts.specs.Answers.{Says, Loaded}
-use Rattle.moving.proofs.Sections.{head-stays, table-stays, assembled, says-made, says-refused}
+use Rattle.parts.proofs.Saying.{says-refused}
+use Rattle.moving.proofs.Sections.{head-stays, table-stays, assembled, says-made}
 use Rattle.reshape.specs.Permuting.{Moves, Permutes, FrontSays, FrontMoved, MoveAsked, namesAxes, MovesAre, AxesMoved}
 use Rattle.reshape.proofs.Fronts.{head-same, front-made, bare-front}
 
@@ -272,7 +273,7 @@ module _ {h : Head} {most : ℕ} {s t : List ℤ} (q : MoveAsked h most s t) (pl
 
   -- refused
   pub axes-refused : {why : Refusal} → r ≡ Refused why → AxesMoved most places (layoutIn s) u (Refused why)
-  axes-refused {why} e entries p = says-refused why (said entries p e)
+  axes-refused {why} e entries p = says-refused why 0 _ (said entries p e)
 
   -- or made, with its dependencies
   pub axes-moved : {v : List ℤ} → r ≡ Done → DepsPicked (take (most + 2) (set places (most + 1) (h .rank))) (most + 2) (layoutIn s) u v → AxesMoved most places (layoutIn s) v Done
@@ -322,7 +323,7 @@ module _ {h : Head} {s : List ℤ} (r : SoundRecord h s) (entries : List ℤ) wh
 
   unusable-says : {t : List ℤ} → isPermutation (layoutIn s) entries ≡ false → Says (permute (layoutIn s) entries) 0 t (Refused NoPermutation)
   unfolding numberOf
-  unusable-says e = says-refused NoPermutation (permute-unusable (layoutIn s) entries e)
+  unusable-says e = says-refused NoPermutation 0 _ (permute-unusable (layoutIn s) entries e)
 
   -- more entries than axes
   pub too-many : {t : List ℤ} → h .rank < length entries → Says (permute (layoutIn s) entries) 0 t (Refused NoPermutation)

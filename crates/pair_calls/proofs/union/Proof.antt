@@ -12,9 +12,8 @@ use Rattle.rules.specs.Union.{union, unionCall}
 use Rattle.records.specs.Sound.{SoundRecord}
 use Rattle.records.proofs.SoundRecords.{sound-record}
 use Rattle.judging.specs.LentSizes.{SizesKept}
-use Rattle.judging.proofs.PairCalls.{pair-early, pair-kept, pair-late-first, pair-late-second, pair-done}
+use Rattle.judging.proofs.PairCalls.{pair-early, pair-kept, pair-late-first, pair-late-second, pair-done, late-union}
 use Rattle.pair_calls.proofs.InWindow.{asked-in-window, says-in-window, only-in-window}
-use Rattle.pair_calls.proofs.Unions.{late-union}
 use Rattle.pair_calls.proofs.union.Statement.{statement}
 use Rattle.pair_calls.proofs.union.Tie as tie
 
