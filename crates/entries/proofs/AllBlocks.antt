@@ -31,6 +31,7 @@ use Rattle.stretch.proofs.InTurn.{gather-append}
 use Rattle.entries.specs.declared.entries.Listed.{Listed}
 use Rattle.entries.specs.Listing.{axesIn}
 use Rattle.entries.specs.Merging.{smallTo, Tabled, TargetReady, MergedMore, entriesOf, joined, BlockAsked, AllAsked, blocksOf}
+use Rattle.entries.proofs.Putting.{either-fails}
 
 -- ---- tests of what is gathered
 
@@ -157,14 +158,10 @@ module _ {x : Listed} {r w n : ℕ} {places : List ℕ} {starts : List (List ℕ
             told : all (smallTo (axesIn x r w)) first && few (sorted first) ≡ false
             told = rw (small-more, ← both) (sym (m .verdict) ∙ not-true v e)
 
-            either : (a b : Bool) → b ≡ false → false ≡ a && b
-            either true b f = sym f
-            either false b f = refl
-
             fails : (a : Bool) → all (smallTo (axesIn x r w)) first ≡ a → false ≡ all (smallTo (axesIn x r w)) (joined x r theBlocks) && few (sorted (joined x r theBlocks))
             fails true f =
                 let long : few (sorted first) ≡ false = rw f at told in
-                either (all (smallTo (axesIn x r w)) (joined x r theBlocks)) (few (sorted (joined x r theBlocks)))
+                either-fails (all (smallTo (axesIn x r w)) (joined x r theBlocks)) (few (sorted (joined x r theBlocks)))
                 (rw whole (lt-leb (length (sorted (first ++ rest))) 128 (omega (arith, leb-false (length (sorted first)) 128 long, merge-length-left first rest))))
             fails false f = rw (whole, all-append (smallTo (axesIn x r w)) first rest, f)
 

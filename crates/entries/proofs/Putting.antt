@@ -79,8 +79,8 @@ pub record Tabling (x : Listed) (h : Head) (src : List ℤ) (start : List ℕ) (
   pub small : Passed (smallTo n) count i (movedList x r (take r start) (layoutIn src))
   pub taken : Taken to w (take i (movedList x r (take r start) (layoutIn src))) s t true
 
--- a list that is not small, or too long, is refused
-either-fails : (a b : Bool) → b ≡ false → false ≡ a && b
+-- of two tests of which the second fails, not both hold
+pub either-fails : (a b : Bool) → b ≡ false → false ≡ a && b
 either-fails true b e = sym e
 either-fails false b e = refl
 

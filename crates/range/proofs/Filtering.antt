@@ -27,9 +27,9 @@ use Rattle.parts.specs.Parts.{partSize, rowsFrom, statesFrom, inputsFrom, layou
 use Rattle.parts.specs.Answers.{Loaded, Says}
 use Rattle.parts.proofs.Holds.{shape-length, rows-few}
 use Rattle.tables.proofs.Tables.{table-length}
+use Rattle.records.proofs.Shown.{rank-shown, deps-low}
 use Rattle.parts.proofs.Saying.{says-refused}
 use Rattle.moving.specs.Sections.{HeadIs, TableIs}
-use Rattle.moving.proofs.Shown.{rank-shown, deps-low}
 use Rattle.moving.proofs.Sections.{head-stays, table-stays, assembled, says-made}
 use Rattle.range.specs.declared.Axis.{Axis}
 use Rattle.range.specs.declared.Axis.the-variants.{Along, Nowhere}

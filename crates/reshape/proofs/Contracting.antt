@@ -33,12 +33,12 @@ use Rattle.tables.proofs.Tables.{table-length}
 use Rattle.axes.specs.Extents.{Extents}
 use Rattle.records.specs.Sound.{SoundRecord}
 use Rattle.records.proofs.SoundRecords.{lies, layout-sound, layout-shown}
+use Rattle.records.proofs.Shown.{shape-size, rank-shown, dense-shown, kind-shown, deps-low}
 use Rattle.parts.specs.Parts.{partSize, rowsFrom, statesFrom, layoutAt}
 use Rattle.parts.specs.Answers.{Says}
 use Rattle.parts.proofs.Saying.{says-refused}
 use Rattle.moving.specs.Sections.{HeadAsked, HeadMade, TableMade}
 use Rattle.moving.specs.Picking.{picked, shorterPlaces, DepsPicked}
-use Rattle.moving.proofs.Shown.{shape-size, rank-shown, dense-shown, kind-shown, deps-low}
 use Rattle.moving.proofs.Sections.{head-stays, table-stays, assembled, says-made}
 use Rattle.reshape.specs.Contracting.{FrontMade, SumAsked, NoDenseAxis}
 use Rattle.reshape.proofs.Shortening.{rows-shortened, deps-shortened}

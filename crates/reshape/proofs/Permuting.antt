@@ -34,7 +34,6 @@ use Rattle.records.proofs.SoundRecords.{lies, layout-sound, layout-shown}
 use Rattle.parts.specs.Parts.{partSize, rowsFrom}
 use Rattle.moving.specs.Sections.{HeadAsked, HeadMade, TableMade}
 use Rattle.moving.specs.Picking.{picked, DepsPicked}
-use Rattle.moving.proofs.Shown.{rank-shown, dense-shown, kind-shown, deps-low}
 use Rattle.moving.proofs.Picking.{picked-length, picked-at}
 use Rattle.moving.proofs.Shortening.{map-alike}
 use Rattle.rules.specs.declared.Refusal.{Refusal}
@@ -43,6 +42,7 @@ use Rattle.rules.specs.Arguments.{upTo}
 use Rattle.rules.specs.CountsAndForms.{minRank, minRankOf}
 use Rattle.rules.proofs.Given.{permute-sound, permute-low}
 use Rattle.rules.proofs.Tests.{none-empty}
+use Rattle.records.proofs.Shown.{rank-shown, dense-shown, kind-shown, deps-low}
 use Rattle.lookups.proofs.SoundRecords.{lent-shape}
 use Rattle.parts.specs.Answers.{Says, Loaded}
 use Rattle.parts.proofs.Saying.{says-refused}

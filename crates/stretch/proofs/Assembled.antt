@@ -34,11 +34,11 @@ use Rattle.tables.proofs.Only.{view-outside, row-outside}
 use Rattle.axes.specs.Extents.{Extents}
 use Rattle.records.specs.Sound.{SoundRecord}
 use Rattle.records.proofs.SoundRecords.{lies, layout-sound, layout-shown}
+use Rattle.records.proofs.Shown.{rank-shown, dense-shown, kind-shown, deps-low}
 use Rattle.parts.specs.Parts.{partSize, kindAt, denseAt, rankAt, layoutAt}
 use Rattle.parts.specs.Answers.{Says}
 use Rattle.parts.proofs.Saying.{says-refused}
 use Rattle.moving.specs.Sections.{HeadAsked, HeadMade}
-use Rattle.moving.proofs.Shown.{rank-shown, dense-shown, kind-shown, deps-low}
 use Rattle.stretch.specs.Spread.{extentsIn}
 use Rattle.stretch.specs.Layouts.{StretchAsked, FillAsked, TablesMade}
 use Rattle.stretch.proofs.Fitting.{front-row}
