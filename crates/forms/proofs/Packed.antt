@@ -84,7 +84,7 @@ module _ {h : Head} {s : List ℤ} (r : SoundRecord h s) where
         section-packed (h .rank + 3) (h .width) s (h .rows) (r .readable .head .rows),
         shape-packed,
         layout-shown r,
-        rank-shown,
+        shape-size r,
       )
       (simp append-assoc)
 
