@@ -1,7 +1,7 @@
 -- How a step in the window ends, by whatever rule: refused, or with a layout in the target. Assumes nothing.
 use mathlib.Core.Path.{_≡_, refl, sym, ap, _∙_}
 use mathlib.Core.Bool.{Bool, true, false}
-use mathlib.Core.List.{List}
+use mathlib.Core.List.{List, []}
 use Prim.Native.Nat.{ℕ, _≤_}
 use native.Mathlib.Omega.{arith}
 use lib.IntN.{ℤ}
@@ -14,13 +14,17 @@ use Rattle.rules.specs.Refusals.{Verdict, given, refused, numberOf}
 use Rattle.rules.specs.Layout.{Layout}
 use Rattle.rules.proofs.Same.{same-true}
 use Rattle.rules.specs.Soundness.{Sound, DepsLow}
+use Rattle.rules.specs.Pairs.{withMerged}
 use Rattle.rules.proofs.Made.{fewOr}
+use Rattle.rules.proofs.Soundness.{diagonal-rows}
 use Rattle.tables.specs.Tables.{Only}
 use Rattle.tables.proofs.Only.{only-same}
 use Rattle.parts.specs.Parts.{windowSize, left, right, target, denseAt, rankAt, layoutAt, Window}
 use Rattle.parts.proofs.Holds.{rank-is, dense-most}
 use Rattle.parts.proofs.Saying.{says-refused}
-use Rattle.combine.specs.Window.{BareAsked, madeStep, Made, Combined}
+use Rattle.combine.specs.declared.window.Way.the-variants.{Diagonals}
+use Rattle.combine.specs.Window.{BareAsked, madeStep, Made, Combined, mergedStates, mergedInputs, shaped}
+use Rattle.combine.proofs.Ways.{Told, diagonal-first}
 
 -- a layout that is too large
 pub too-large : {few : Bool} → few ≡ false → Refused MadeTooLarge ≡ madeStep few
@@ -53,6 +57,18 @@ module _ {rule : Layout → Layout → Verdict Layout} {s : List ℤ} (q : Windo
   -- a layout was made, or is too large
   pub combine-made : Makes rule → {l : Layout} {t : List ℤ} → rule (layoutAt left s) (layoutAt right s) ≡ fewOr l → {few : Bool} → Made l s t few → Combined rule s t (madeStep few)
   combine-made makes e m = combine-told makes (e ∙ rw (← m .verdict)) (m .layout) (m .only)
+
+  -- two diagonals were merged, or their dependencies are too many
+  pub diagonals-combined : Makes rule → Told (layoutAt left s) (layoutAt right s) Diagonals →
+      rule (layoutAt left s) (layoutAt right s) ≡ fewOr (withMerged (layoutAt left s) (layoutAt right s) (layoutAt left s)) →
+      {d : ℕ} {t : List ℤ} {few : Bool} → d ≡ denseAt left s →
+      Made (shaped 1 d [] (mergedStates s) (mergedInputs s) (layoutAt left s)) s t few → Combined rule s t (madeStep few)
+  diagonals-combined makes told e {d} k m =
+      let x : Layout = layoutAt left s in
+      let kind = diagonal-first told in
+      let dense : d ≡ x .dense = unfold layoutAt in k in
+      let is : shaped 1 d [] (mergedStates s) (mergedInputs s) x ≡ withMerged x (layoutAt right s) x = rw (kind, dense, diagonal-rows (q .first .sound .form) kind) in
+      combine-made makes e (rw is at m)
 
 -- ---- layouts of one shape
 
