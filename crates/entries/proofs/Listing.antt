@@ -11,7 +11,7 @@ use Rattle.rules.specs.declared.Head.{Head}
 use Rattle.rules.specs.declared.Entries.{Entries}
 use Rattle.rules.specs.Lists.{below, product, fitTo}
 use Rattle.rules.specs.Buffers.{part, put}
-use Rattle.rules.specs.Layout.{Layout, rank, width, isDense, isDiagonal}
+use Rattle.rules.specs.Layout.{Layout, rank, isDense, isDiagonal}
 use Rattle.rules.specs.Record.{layoutIn}
 use Rattle.rules.specs.Positions.{unravel}
 use Rattle.rules.specs.Dependencies.{onIndex}

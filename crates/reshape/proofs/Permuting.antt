@@ -18,7 +18,7 @@ use Rattle.rules.specs.Lists.{if, largest, all, none}
 use Rattle.rules.specs.RowsInOrder.{sorted, Each}
 use Rattle.rules.specs.Buffers.{part}
 use Rattle.rules.specs.Refusals.{refused, numberOf}
-use Rattle.rules.specs.Layout.{Layout, rank, width, alike}
+use Rattle.rules.specs.Layout.{Layout, rank, alike}
 use Rattle.rules.specs.Record.{naturals, layoutIn, shapeIn}
 use Rattle.rules.specs.Dependencies.{indexOf, onIndex}
 use Rattle.rules.specs.Permute.{movedTo, moved, permuted, permute, repeats, isPermutation}
