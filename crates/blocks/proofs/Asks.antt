@@ -20,10 +20,11 @@ use Rattle.rules.proofs.ReadBack.{layout-sound}
 use Rattle.rules.proofs.Blocks.{first-low}
 use Rattle.tables.proofs.Passing.{Passed, none-passed, one-more, one-fails, all-passed}
 use Rattle.lists.specs.Places.{standing, Inside, EachAt}
+use Rattle.lists.specs.Records.{layoutsAt}
 use Rattle.lists.proofs.Beginning.{length-standing, lent-at, place-inside, place-fits, known-at}
 use Rattle.blocks.specs.declared.asking.Ask.{Ask}
 use Rattle.blocks.specs.declared.asking.Ask.the-variants.{Within, OfRank, Dense, Sparse, Diagonal, DenseAxes, Stretches, Extent}
-use Rattle.blocks.specs.Blocks.{SoundAt, layoutsAt}
+use Rattle.blocks.specs.Blocks.{SoundAt}
 use Rattle.blocks.specs.Asked.{asked, otherwise}
 
 -- ---- one layout

@@ -19,11 +19,12 @@ use Rattle.rules.proofs.Tests.{all-at}
 use Rattle.rules.proofs.Ranges.{map-at}
 use Rattle.lists.specs.Places.{standing, Inside, PlacesOf}
 use Rattle.lists.specs.Starts.{blocksAt, startsIn, StartsOf}
+use Rattle.lists.specs.Records.{layoutsAt}
 use Rattle.lists.proofs.Beginning.{length-standing}
 use Rattle.blocks.specs.declared.deciding.Way.{Way}
 use Rattle.blocks.specs.declared.deciding.Way.the-variants.{Unjoinable, Dense, Diagonal, Rows}
 use Rattle.blocks.specs.declared.deciding.Join.{Join}
-use Rattle.blocks.specs.Blocks.{layoutsAt, blockWith, blocksBy, BlocksAt}
+use Rattle.blocks.specs.Blocks.{blockWith, blocksBy, BlocksAt}
 use Rattle.blocks.specs.Asked.{otherwise}
 use Rattle.blocks.specs.Joins.{rowsWay, wayOther, wayOf, denseBy, shapeBy, joinOf}
 use Rattle.blocks.proofs.Shapes.{map-from}

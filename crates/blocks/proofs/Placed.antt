@@ -10,7 +10,8 @@ use Rattle.rules.specs.Limits.{rankLimit, productLimit}
 use Rattle.rules.specs.Layout.{Layout}
 use Rattle.rules.specs.Record.{layoutIn}
 use Rattle.rules.specs.Concatenate.{Block, layoutsOf, shapesOf}
-use Rattle.blocks.specs.Blocks.{layoutsAt, blockWith, placed, blocksBy, BlocksAt}
+use Rattle.lists.specs.Records.{layoutsAt}
+use Rattle.blocks.specs.Blocks.{blockWith, placed, blocksBy, BlocksAt}
 use Rattle.blocks.proofs.Asks.{length-layouts, layout-at}
 
 module _ (r : ℕ) where

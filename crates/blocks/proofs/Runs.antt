@@ -14,7 +14,7 @@ use Rattle.rules.specs.Limits.{productLimit}
 use Rattle.rules.specs.Lists.{same, fitTo}
 use Rattle.rules.specs.Record.{layoutIn}
 use Rattle.rules.specs.Concatenate.{startAt}
-use Rattle.shapes.proofs.Fitting.{fit-length}
+use Rattle.rules.proofs.Replaced.{fit-length}
 use Rattle.lists.proofs.Entering.{same-entry}
 use Rattle.lists.proofs.Beginning.{place-inside, place-fits}
 use Rattle.blocks.specs.declared.running.Line.{Line}
@@ -41,7 +41,7 @@ pub ruleset number-laws = (first-on, other-on, diagonal-on)
 -- ---- one start
 
 length-on : (line : Line) (r run : ℕ) → length (placeOn line r run) ≡ r
-length-on First r run = fit-length r (run ∷ [])
+length-on First r run = fit-length r 0 (run ∷ [])
 length-on Diagonal r run = length-replicate r run
 
 repeated : (n k x : ℕ) → k < n → getD (replicate n x) k 0 ≡ x

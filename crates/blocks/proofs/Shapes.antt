@@ -15,12 +15,13 @@ use Rattle.rules.specs.Layout.{Layout}
 use Rattle.rules.specs.Concatenate.{Block, layoutsOf, shapesOf, firstExtent, laterExtent, laterAxes, reach}
 use Rattle.rules.proofs.Largest.{larger-is}
 use Rattle.cells.specs.View.{Low}
+use Rattle.lists.specs.Records.{layoutsAt}
 use Rattle.lists.proofs.Entering.{Entered, entered-none, entered-more, Filled, filled-done}
 use Rattle.blocks.specs.declared.deciding.Way.{Way}
 use Rattle.blocks.specs.declared.deciding.Way.the-variants.{Unjoinable, Dense, Diagonal, Rows}
 use Rattle.blocks.specs.declared.measuring.Measure.the-variants.{First, Extent, Reach}
 use Rattle.blocks.specs.declared.measuring.Fold.the-variants.{Sum, Largest}
-use Rattle.blocks.specs.Blocks.{layoutsAt, placed, blocksBy}
+use Rattle.blocks.specs.Blocks.{placed, blocksBy}
 use Rattle.blocks.specs.Measured.{measure, folded, foldLimit}
 use Rattle.blocks.specs.Joins.{shapeBy, extentBy}
 use Rattle.blocks.proofs.Placed.{layouts-placed, shapes-placed}

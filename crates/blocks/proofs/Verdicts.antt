@@ -5,11 +5,11 @@ use mathlib.Core.List.{List, [], map, Memᴰ·of-map}
 use Prim.Native.Nat.{ℕ, suc, _+_, _-_, _<_, _≤_}
 use native.Mathlib.Numerals.{add-one}
 use native.Mathlib.Omega.{arith}
-use lib.Dec.{eqb, ltb}
+use lib.Dec.{ltb}
 use lib.IntN.{ℤ}
 use lib.ListN.{length, drop, length-map, length-take, length-drop}
 use Rattle.rules.specs.Limits.{rankLimit}
-use Rattle.rules.specs.Lists.{if, all, any, product}
+use Rattle.rules.specs.Lists.{if, all, any}
 use Rattle.rules.specs.RowsInOrder.{sorted}
 use Rattle.rules.specs.Refusals.{Verdict, given, refused, inForm, _then_}
 use Rattle.rules.specs.Layout.{Layout, rank, isDense, isSparse, withinSizes}
@@ -24,6 +24,7 @@ use Rattle.rules.proofs.ReadBack.{layout-sound}
 use Rattle.rules.proofs.Made.{sizedOr, form-made}
 use Rattle.rules.proofs.Blocks.{FormedBlock, FormedBlocks, length-reach}
 use Rattle.rules.proofs.ConcatenateMade.{joinedFull, no-deps, form-joined, dense-made, diagonal-none, diagonal-made, rows-form, rows-made}
+use Rattle.rules.proofs.Forming.{if-full}
 use Rattle.lists.specs.Places.{standing}
 use Rattle.lists.specs.Starts.{blocksAt}
 use Rattle.lists.proofs.Asking.{all-of}
@@ -96,15 +97,6 @@ dense-of l f s i = record {
   states-fit = rw s (no-deps _);
   inputs-fit = rw i (no-deps _);
 }
-
--- what holds of a layout and of its dense one holds of it dense if full
-if-full : (P : Layout → Type 0) (l : Layout) → P l → P (toDense l) → P (denseIfFull l)
-unfolding denseIfFull
-if-full P l p q = by (isSparse l && eqb (length (l .rows)) (product (l .shape)))
-  where
-    by : (t : Bool) → P (if t (toDense l) l)
-    by true = q
-    by false = p
 
 -- ---- the verdict
 

@@ -19,6 +19,7 @@ use Rattle.rules.proofs.Same.{decided, same-true, same-refl}
 use Rattle.rules.proofs.Tests.{all-each, each-all}
 use Rattle.rules.proofs.Ranges.{from-only, from-has}
 use Rattle.lists.specs.Places.{EachAt}
+use Rattle.lists.specs.Records.{layoutsAt}
 use Rattle.lists.proofs.Asking.{any-all, all-of}
 use Rattle.lists.proofs.Beginning.{place-inside, place-fits}
 use Rattle.blocks.specs.declared.deciding.Way.{Way}
@@ -26,7 +27,7 @@ use Rattle.blocks.specs.declared.deciding.Way.the-variants.{Unjoinable, 
 use Rattle.blocks.specs.declared.deciding.Join.{Join}
 use Rattle.blocks.specs.declared.running.Line.the-variants.{First, Diagonal as OnDiagonal}
 use Rattle.blocks.specs.declared.asking.Ask.the-variants.{Within, OfRank, Dense as AllDense, Sparse, Diagonal as AllDiagonal, DenseAxes, Stretches, Extent}
-use Rattle.blocks.specs.Blocks.{SoundAt, layoutsAt, placed, blocksBy}
+use Rattle.blocks.specs.Blocks.{SoundAt, placed, blocksBy}
 use Rattle.blocks.specs.Asked.{asked, otherwise}
 use Rattle.blocks.specs.Lines.{placeOn}
 use Rattle.blocks.specs.Joins.{rowsWay, wayOther, wayOf, agreeOn, denseBy, shapeBy, extentBy, joinOf}

@@ -1,23 +1,20 @@
 -- The blocks at hand: the places of their records in a slice, and their starts by value.
 use mathlib.Core.Path.{_≡_}
 use mathlib.Core.Bool.{true, false}
-use mathlib.Core.List.{List, [], _∷_, map}
+use mathlib.Core.List.{List, [], _∷_}
 use Prim.Native.Nat.{ℕ, _<_, _≤_}
 use lib.IntN.{ℤ}
 use lib.ListN.{length, getD, take, drop}
 use Rattle.rules.specs.Limits.{rankLimit, listLimit, productLimit}
 use Rattle.rules.specs.Layout.{Layout}
-use Rattle.rules.specs.Record.{layoutIn, sound}
+use Rattle.rules.specs.Record.{sound}
 use Rattle.rules.specs.Concatenate.{Block}
-use Rattle.lists.specs.Places.{standing, EachAt}
+use Rattle.lists.specs.Places.{EachAt}
+use Rattle.lists.specs.Records.{layoutsAt}
 
 -- a sound record is at the front of the slice
 abbrev pub SoundAt : List ℤ → Type 0
 SoundAt s = sound s ≡ true
-
--- the layouts of the records at the first n places
-abbrev pub layoutsAt : ℕ → List ℕ → List ℤ → List Layout
-layoutsAt n records s = map layoutIn (standing n records s)
 
 -- a block that starts there; flags do not matter to how blocks are joined
 abbrev pub blockWith : List ℕ → Layout → Block

@@ -1,7 +1,7 @@
 -- What a signed local says of the number that it holds. A local holds bits, and a need speaks of those bits, read back: of
 -- `held z` where the code has z.
 use mathlib.Core.Path.{_≡_, refl, sym, ap, _∙_}
-use mathlib.Core.Bool.{Bool, true, false}
+use mathlib.Core.Bool.{true, false}
 use mathlib.Core.List.{List}
 use Prim.Native.Nat.{ℕ, zero, suc, _+_, _-_, _<_, _≤_, _^_}
 use native.Mathlib.Omega.{arith}
@@ -12,7 +12,8 @@ use lib.Signed.{mag, ltZ, nonNeg}
 use mir.Syntax.{w32, w64}
 use mir.Val.{Fits, SFits, toZ, ofZ}
 use mir.ValLaws.{toZ-ofZ}
-use borrow.Author.Tests.{ltb-true, lt-ltb, le-ltb, eqb-true, eqb-false, eq-eqb, ne-eqb}
+use borrow.Author.Tests.{ltb-true, lt-ltb, le-ltb}
+use Rattle.rules.proofs.Same.{one-test}
 use Rattle.cells.specs.declared.Sign.the-variants.{Natural, Negative}
 use Rattle.cells.specs.View.{code, view, signOf}
 use Rattle.cells.proofs.View.{view-getD, code-one}
@@ -23,6 +24,10 @@ held z = toZ w32 (ofZ w32 z)
 
 pub back : (z : ℤ) → mag z < 2 ^ 31 → held z ≡ z
 back z h = toZ-ofZ w32 z (record { sfits = h })
+
+-- of a small natural number it is the number
+pub held-pos : {z : ℤ} (i : ℕ) → i < 2 ^ 31 → z ≡ pos i → held z ≡ pos i
+held-pos i h e = rw e (back (pos i) h)
 
 negative : (z : ℤ) → ltZ z (pos 0) ≡ true → z ≡ negsuc (mag z)
 negative (pos n) e = absurd (let h = ltb-true n 0 e in omega arith)
@@ -116,17 +121,11 @@ below (pos m) (negsuc n) h k = absurd (omega arith)
 below (negsuc m) (pos n) h k = absurd (omega arith)
 below (negsuc m) (negsuc n) h k = absurd (omega arith)
 
--- two tests that say the same
-one-test : (a b p q : ℕ) → (a ≡ b → p ≡ q) → (p ≡ q → a ≡ b) → (t : Bool) → eqb a b ≡ t → eqb a b ≡ eqb p q
-one-test a b p q f g true e = e ∙ sym (eq-eqb p q (f (eqb-true a b e)))
-one-test a b p q f g false e = e ∙ sym (ne-eqb p q (λ (u : p ≡ q). eqb-false a b e (g u)))
-
 equal : (x y : ℤ) → mag x < 2 ^ 31 → mag y < 2 ^ 31 → eqb (ofZ w32 x) (ofZ w32 y) ≡ eqb (code x) (code y)
 equal x y h k =
     one-test (ofZ w32 x) (ofZ w32 y) (code x) (code y)
     (λ (e : ofZ w32 x ≡ ofZ w32 y). ap code (sym (back x h) ∙ ap (toZ w32) e ∙ back y k))
     (λ (e : code x ≡ code y). ap (ofZ w32) (code-one x y h k e))
-    (eqb (ofZ w32 x) (ofZ w32 y)) refl
 
 -- the tests of two numbers that stand in slices are those of their views
 module _ (s t : List ℤ) (i j : ℕ) (h : mag (getD s i (pos 0)) < 2 ^ 31) (k : mag (getD t j (pos 0)) < 2 ^ 31) where

@@ -5,7 +5,7 @@ use Prim.Native.Nat.{ℕ, zero, suc, _+_, _<_, _^_}
 use native.Mathlib.Omega.{arith}
 use lib.IntN.{ℤ, pos, negsuc}
 use lib.ListN.{length, getD, set, take, drop, replicate}
-use lib.Seq.{ext-getD, drop-drop}
+use lib.Seq.{ext-getD, getD-set-same, drop-drop}
 use lib.Signed.{mag}
 use Rattle.rules.specs.Buffers.{part, over, put, zeros}
 use Rattle.cells.specs.View.{code, view, Low}
@@ -26,6 +26,10 @@ unfolding view
 view-set [] k z = refl
 view-set (y ∷ l) zero z = refl
 view-set (y ∷ l) (suc k) z = ap (λ (t : List ℕ). code y ∷ t) (view-set l k z)
+
+-- a number that was stored
+pub stored-number : (at n : ℕ) (s : List ℤ) → at < length s → getD (view (set s at (pos n))) at 0 ≡ n
+stored-number at n s h = rw view-set (getD-set-same (view s) at n 0 (rw view-length h))
 
 pub view-take : (n : ℕ) (l : List ℤ) → view (take n l) ≡ take n (view l)
 unfolding view

@@ -9,11 +9,11 @@ use lib.IntN.{ℤ}
 use lib.ListN.{length}
 use Rattle.rules.specs.Pairs.{lowered}
 use Rattle.rules.proofs.Same.{true-not-false, same-true}
-use Rattle.tables.specs.Tables.{Only, Ready}
+use Rattle.tables.specs.Tables.{Only, Ready, Listed}
 use Rattle.tables.proofs.Only.{only-then, only-wider, table-outside, ready-outside}
 use Rattle.parts.specs.Parts.{rowsFrom, windowSize, left, right, target, spare, otherSpare, denseAt, rankAt, layoutAt, Window}
 use Rattle.parts.proofs.Holds.{rank-most, rank-is, dense-most}
-use Rattle.lowering.specs.Lowering.{LowerAsked, Listed}
+use Rattle.lowering.specs.Lowering.{LowerAsked}
 use Rattle.combine.specs.Window.{BothAsked, BothLowered}
 use Rattle.combine.proofs.Ways.{way-told, Free, both-free}
 use Rattle.combine.proofs.Rooms.{first-same, second-same, second-rank, window-still}

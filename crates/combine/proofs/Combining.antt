@@ -1,12 +1,12 @@
 -- How a step in the window ends, by whatever rule: refused, or with a layout in the target. Assumes nothing.
 use mathlib.Core.Path.{_≡_, refl, sym, ap, _∙_}
 use mathlib.Core.Bool.{Bool, true, false}
-use mathlib.Core.List.{List}
+use mathlib.Core.List.{List, []}
 use Prim.Native.Nat.{ℕ, _≤_}
 use native.Mathlib.Omega.{arith}
 use lib.IntN.{ℤ}
 use lib.ListN.{length}
-use Rattle.rules.specs.declared.Step.the-variants.{Done, Refused}
+use Rattle.rules.specs.declared.Step.the-variants.{Refused}
 use Rattle.rules.specs.declared.Refusal.{Refusal}
 use Rattle.rules.specs.declared.Refusal.the-variants.{MadeTooLarge}
 use Rattle.rules.specs.Lists.{if, same}
@@ -14,20 +14,21 @@ use Rattle.rules.specs.Refusals.{Verdict, given, refused, numberOf}
 use Rattle.rules.specs.Layout.{Layout}
 use Rattle.rules.proofs.Same.{same-true}
 use Rattle.rules.specs.Soundness.{Sound, DepsLow}
+use Rattle.rules.specs.Pairs.{withMerged}
 use Rattle.rules.proofs.Made.{fewOr}
+use Rattle.rules.proofs.Soundness.{diagonal-rows}
 use Rattle.tables.specs.Tables.{Only}
 use Rattle.tables.proofs.Only.{only-same}
 use Rattle.parts.specs.Parts.{windowSize, left, right, target, denseAt, rankAt, layoutAt, Window}
 use Rattle.parts.proofs.Holds.{rank-is, dense-most}
-use Rattle.combine.specs.Window.{BareAsked, madeStep, Made, Combined}
+use Rattle.parts.proofs.Saying.{says-refused}
+use Rattle.combine.specs.declared.window.Way.the-variants.{Diagonals}
+use Rattle.combine.specs.Window.{BareAsked, madeStep, Made, Combined, mergedStates, mergedInputs, shaped}
+use Rattle.combine.proofs.Ways.{Told, diagonal-first}
 
 -- a layout that is too large
 pub too-large : {few : Bool} → few ≡ false → Refused MadeTooLarge ≡ madeStep few
 too-large e = rw e
-
--- a refusal is no answer
-never-done : {x : Refusal} → Refused x ≡ Done → ⊥
-never-done e = let z : _≡_ {A = ℕ} 0 1 = cc in omega arith
 
 -- a rule that makes a sound layout of two sound ones, with low dependencies of low ones
 pub record Makes (rule : Layout → Layout → Verdict Layout) : Type 0 where
@@ -37,7 +38,7 @@ pub record Makes (rule : Layout → Layout → Verdict Layout) : Type 0 where
 module _ {rule : Layout → Layout → Verdict Layout} {s : List ℤ} (q : Window s) where
   -- nothing is written
   pub combine-refused : (r : Refusal) → rule (layoutAt left s) (layoutAt right s) ≡ refused (numberOf r) → Combined rule s s (Refused r)
-  combine-refused r e = record { says = record { is = sym e; holds = λ d. absurd (never-done d) }; only = only-same target windowSize s }
+  combine-refused r e = record { says = says-refused r target s e; only = only-same target windowSize s }
 
   -- a layout was made, or a list of it or on the way to it is too long
   pub combine-told : Makes rule → {l : Layout} {t : List ℤ} {few : Bool} → rule (layoutAt left s) (layoutAt right s) ≡ if few (given l) (refused 13) →
@@ -51,11 +52,23 @@ module _ {rule : Layout → Layout → Verdict Layout} {s : List ℤ} (q : Windo
         };
         only = o;
       }
-  combine-told makes {few = false} e f o = record { says = record { is = unfold numberOf in sym e; holds = λ d. absurd (never-done d) }; only = o }
+  combine-told makes {t} {few = false} e f o = record { says = unfold numberOf in says-refused MadeTooLarge target t e; only = o }
 
   -- a layout was made, or is too large
   pub combine-made : Makes rule → {l : Layout} {t : List ℤ} → rule (layoutAt left s) (layoutAt right s) ≡ fewOr l → {few : Bool} → Made l s t few → Combined rule s t (madeStep few)
   combine-made makes e m = combine-told makes (e ∙ rw (← m .verdict)) (m .layout) (m .only)
+
+  -- two diagonals were merged, or their dependencies are too many
+  pub diagonals-combined : Makes rule → Told (layoutAt left s) (layoutAt right s) Diagonals →
+      rule (layoutAt left s) (layoutAt right s) ≡ fewOr (withMerged (layoutAt left s) (layoutAt right s) (layoutAt left s)) →
+      {d : ℕ} {t : List ℤ} {few : Bool} → d ≡ denseAt left s →
+      Made (shaped 1 d [] (mergedStates s) (mergedInputs s) (layoutAt left s)) s t few → Combined rule s t (madeStep few)
+  diagonals-combined makes told e {d} k m =
+      let x : Layout = layoutAt left s in
+      let kind = diagonal-first told in
+      let dense : d ≡ x .dense = unfold layoutAt in k in
+      let is : shaped 1 d [] (mergedStates s) (mergedInputs s) x ≡ withMerged x (layoutAt right s) x = rw (kind, dense, diagonal-rows (q .first .sound .form) kind) in
+      combine-made makes e (rw is at m)
 
 -- ---- layouts of one shape
 

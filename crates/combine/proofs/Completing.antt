@@ -10,6 +10,7 @@ use lib.ListN.{getD, set}
 use Rattle.rules.specs.Limits.{entryLimit}
 use Rattle.rules.specs.Buffers.{part}
 use Rattle.cells.specs.View.{view}
+use Rattle.cells.proofs.View.{stored-number}
 use Rattle.tables.specs.Tables.{tableAt, Only}
 use Rattle.tables.proofs.Only.{only-then, only-wider, only-set, view-outside, row-outside, count-outside, table-outside}
 use Rattle.tables.proofs.Made.{emptied}
@@ -17,7 +18,6 @@ use Rattle.parts.specs.Parts.{extentsFrom, rowsFrom, statesFrom, inputsFrom, wi
 use Rattle.parts.proofs.Holds.{rank-most}
 use Rattle.combine.specs.Window.{DepsAsked, HeadAsked, BareAsked, CompleteAsked, HeadMade, DepsMade, mergedStates, mergedInputs, shaped, rowsThere, Completed, Made}
 use Rattle.combine.proofs.Rooms.{in-target, first-same, second-same, first-rank, window-still, deps-still}
-use Rattle.combine.proofs.Heads.{stored-number}
 
 -- the head can be written
 pub ask-head : {kind dense : ℕ} {s : List ℤ} → CompleteAsked kind dense s → HeadAsked kind dense s

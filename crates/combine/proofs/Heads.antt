@@ -2,16 +2,15 @@
 use mathlib.Core.Path.{_≡_, sym, ap, _∙_}
 use mathlib.Core.List.{List}
 use mathlib.Core.Logic.{_⊎_, inl, inr}
-use Prim.Native.Nat.{ℕ, _+_, _<_, _≤_}
+use Prim.Native.Nat.{ℕ, _+_, _≤_}
 use native.Mathlib.Nat.{add-zero}
 use native.Mathlib.Omega.{arith}
 use lib.IntN.{ℤ, pos}
 use lib.ListN.{length, getD, set}
-use lib.Seq.{getD-set-same}
 use Rattle.rules.specs.Buffers.{part, put}
 use Rattle.rules.proofs.Buffers.{length-part, part-part}
 use Rattle.cells.specs.View.{view}
-use Rattle.cells.proofs.View.{view-length, view-set}
+use Rattle.cells.proofs.View.{stored-number}
 use Rattle.tables.specs.Rows.{rowAt}
 use Rattle.tables.specs.Tables.{Only}
 use Rattle.tables.proofs.Rows.{row-number, row-put}
@@ -19,10 +18,6 @@ use Rattle.tables.proofs.Only.{only-then, only-wider, only-put, only-set, view-
 use Rattle.parts.specs.Parts.{rowsFrom, left, target, rankAt}
 use Rattle.parts.proofs.Holds.{rank-most}
 use Rattle.combine.specs.Window.{HeadAsked, HeadMade}
-
--- a number that was stored
-pub stored-number : (at n : ℕ) (s : List ℤ) → at < length s → getD (view (set s at (pos n))) at 0 ≡ n
-stored-number at n s h = rw view-set (getD-set-same (view s) at n 0 (rw view-length h))
 
 module _ {kind dense : ℕ} {s : List ℤ} (q : HeadAsked kind dense s) where
   -- the numbers that are copied

@@ -1,5 +1,5 @@
 -- What the heads of two layouts tell: their shapes, kinds and dense axes. Assumes nothing.
-use mathlib.Core.Path.{_≡_, refl, sym, ap, _∙_}
+use mathlib.Core.Path.{_≡_, sym, _∙_}
 use mathlib.Core.Bool.{Bool, true, false, _&&_}
 use mathlib.Core.List.{List}
 use Prim.Native.Nat.{ℕ, _+_, _-_, _<_, _≤_}
@@ -13,7 +13,7 @@ use Rattle.rules.specs.Buffers.{part}
 use Rattle.rules.specs.Layout.{rank, isDense}
 use Rattle.rules.specs.Removal.{listsRow}
 use Rattle.rules.specs.Pairs.{alikeDiagonals, lowerD, barsExpansion}
-use Rattle.rules.proofs.Same.{same-true}
+use Rattle.rules.proofs.Same.{lengths-differ}
 use Rattle.rules.proofs.Listed.{lists-between, lists-zero, lists-same}
 use Rattle.cells.specs.View.{view}
 use Rattle.tables.proofs.Tables.{table-length}
@@ -22,14 +22,6 @@ use Rattle.parts.proofs.Holds.{rank-most, rank-is}
 use Rattle.lowering.specs.Lowering.{Axes, lastAxes}
 
 -- ---- shapes
-
--- shapes of two lengths are not the same
-lengths-differ : (p q : List ℕ) → (length p ≡ length q → ⊥) → same p q ≡ false
-lengths-differ p q n = go (same p q) refl
-  where
-    go : (t : Bool) → same p q ≡ t → t ≡ false
-    go true e = absurd (n (ap length (same-true e)))
-    go false e = refl
 
 module _ {s : List ℤ} (h : Window s) where
   -- ranks that differ

@@ -15,7 +15,6 @@ use Rattle.rules.specs.Removal.{listsRow}
 use Rattle.rules.specs.Pairs.{lowerD, barsExpansion, withMerged}
 use Rattle.rules.specs.Union.{union}
 use Rattle.rules.specs.Soundness.{Sound}
-use Rattle.rules.proofs.Soundness.{diagonal-rows}
 use Rattle.rules.proofs.Made.{fewOr}
 use Rattle.rules.proofs.Unions.{union-shapes, union-sound, union-dense, union-diagonals, union-bars, union-lists, union-rows}
 use Rattle.rules.proofs.Low.{union-low}
@@ -25,8 +24,8 @@ use Rattle.combine.specs.declared.window.Way.{Way}
 use Rattle.combine.specs.declared.window.Way.the-variants.{Dense, Diagonals, Rows}
 use Rattle.combine.specs.Window.{wayOf, RowsAsked, BothAsked, mergedStates, mergedInputs, shaped, madeStep, Made, Combined}
 use Rattle.combine.specs.Uniting.{unitedRows}
-use Rattle.combine.proofs.Ways.{Told, told-dense, told-diagonals, told-rows, way-told, diagonal-first}
-use Rattle.combine.proofs.Combining.{Makes, combine-refused, combine-made, shapes-same}
+use Rattle.combine.proofs.Ways.{Told, told-dense, told-diagonals, told-rows, way-told}
+use Rattle.combine.proofs.Combining.{Makes, combine-refused, combine-made, shapes-same, diagonals-combined}
 
 -- ---- the union, by its way
 
@@ -106,12 +105,9 @@ module _ {s : List ℤ} (q : Window s) where
 
     pub diagonals-made : {d : ℕ} {t : List ℤ} {few : Bool} {step : Step} → w ≡ Diagonals → d ≡ denseAt left s →
         Made (shaped 1 d [] (mergedStates s) (mergedInputs s) x) s t few → step ≡ madeStep few → Combined union s t step
-    diagonals-made {d} e k m p =
+    diagonals-made e k m p =
         let told = way-told x y w-is e in
-        let kind = diagonal-first told in
-        let dense : d ≡ x .dense = unfold layoutAt in k in
-        let is : shaped 1 d [] (mergedStates s) (mergedInputs s) x ≡ withMerged x y x = rw (kind, dense, diagonal-rows (q .first .sound .form) kind) in
-        rw p (combine-made q makes-union (united-diagonals (q .first .sound) (q .second .sound) shapes told) (rw is at m))
+        rw p (diagonals-combined q makes-union told (united-diagonals (q .first .sound) (q .second .sound) shapes told) k m)
 
     pub ask-rows : w ≡ Rows → RowsAsked s
     ask-rows e = record { window = q; shapes = shapes; way = sym w-is ∙ e }

@@ -17,30 +17,23 @@ use Rattle.rules.specs.Concatenate.{Block, blockOf}
 use Rattle.rules.proofs.Same.{true-not-false, both-true}
 use Rattle.rules.proofs.Ranges.{map-at}
 use Rattle.rules.proofs.Merging.{sorted-left, merge-length-left}
+use Rattle.rules.proofs.Tests.{all-append}
 use Rattle.tables.specs.Tables.{tableAt, roomEnd, Only}
 use Rattle.tables.proofs.Only.{only-same, only-then, only-wider, only-set}
 use Rattle.tables.proofs.Tables.{table-length}
 use Rattle.tables.proofs.Made.{emptied}
+use Rattle.tables.proofs.Taking.{cleared-ready}
 use Rattle.parts.specs.Parts.{windowSize, spare}
 use Rattle.lists.specs.Places.{standing, Inside}
 use Rattle.lists.specs.Starts.{blocksAt}
 use Rattle.lists.proofs.Beginning.{length-standing, lent-at, place-inside, place-fits}
 use Rattle.stretch.proofs.InTurn.{gather-append}
-use Rattle.stretch.proofs.Depending.{start-ready}
 use Rattle.entries.specs.declared.entries.Listed.{Listed}
 use Rattle.entries.specs.Listing.{axesIn}
 use Rattle.entries.specs.Merging.{smallTo, Tabled, TargetReady, MergedMore, entriesOf, joined, BlockAsked, AllAsked, blocksOf}
+use Rattle.entries.proofs.Putting.{either-fails}
 
 -- ---- tests of what is gathered
-
-all-append : {A : Type 0} (test : A → Bool) (p q : List A) → all test (p ++ q) ≡ all test p && all test q
-unfolding all
-all-append test [] q = refl
-all-append test (x ∷ p) q = by (test x) (all-append test p q)
-  where
-    by : (b : Bool) → all test (p ++ q) ≡ all test p && all test q → b && all test (p ++ q) ≡ (b && all test p) && all test q
-    by true e = e
-    by false e = refl
 
 -- what the first blocks give, and what the next one does
 module _ {B : Type 0} (f : Block → List B) (blocks : List Block) (i : ℕ) (d : Block) (h : i < length blocks) where
@@ -88,7 +81,7 @@ module _ {x : Listed} {r w n : ℕ} {places : List ℕ} {starts : List (List ℕ
       record {
         asked = a;
         upto = omega arith;
-        target = record { ready = start-ready old room e; before = q .0; narrow = q .1; room = rw (o .size) (q .2) };
+        target = record { ready = cleared-ready old e room; before = q .0; narrow = q .1; room = rw (o .size) (q .2) };
         small = refl;
         table = rw e (emptied at w old room);
         only = only-same at windowSize s;
@@ -165,14 +158,10 @@ module _ {x : Listed} {r w n : ℕ} {places : List ℕ} {starts : List (List ℕ
             told : all (smallTo (axesIn x r w)) first && few (sorted first) ≡ false
             told = rw (small-more, ← both) (sym (m .verdict) ∙ not-true v e)
 
-            either : (a b : Bool) → b ≡ false → false ≡ a && b
-            either true b f = sym f
-            either false b f = refl
-
             fails : (a : Bool) → all (smallTo (axesIn x r w)) first ≡ a → false ≡ all (smallTo (axesIn x r w)) (joined x r theBlocks) && few (sorted (joined x r theBlocks))
             fails true f =
                 let long : few (sorted first) ≡ false = rw f at told in
-                either (all (smallTo (axesIn x r w)) (joined x r theBlocks)) (few (sorted (joined x r theBlocks)))
+                either-fails (all (smallTo (axesIn x r w)) (joined x r theBlocks)) (few (sorted (joined x r theBlocks)))
                 (rw whole (lt-leb (length (sorted (first ++ rest))) 128 (omega (arith, leb-false (length (sorted first)) 128 long, merge-length-left first rest))))
             fails false f = rw (whole, all-append (smallTo (axesIn x r w)) first rest, f)
 

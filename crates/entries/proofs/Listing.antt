@@ -2,7 +2,7 @@
 use mathlib.Core.Path.{_≡_, refl, sym, ap, _∙_}
 use mathlib.Core.Bool.{Bool, true, false}
 use mathlib.Core.List.{List, [], map}
-use Prim.Native.Nat.{ℕ, zero, suc, _+_, _*_, _-_, _^_, _<_, _≤_}
+use Prim.Native.Nat.{ℕ, _+_, _*_, _^_, _<_, _≤_}
 use native.Mathlib.Nat.{zero-add}
 use native.Mathlib.Omega.{arith}
 use lib.IntN.{ℤ, pos}
@@ -11,7 +11,7 @@ use Rattle.rules.specs.declared.Head.{Head}
 use Rattle.rules.specs.declared.Entries.{Entries}
 use Rattle.rules.specs.Lists.{below, product, fitTo}
 use Rattle.rules.specs.Buffers.{part, put}
-use Rattle.rules.specs.Layout.{Layout, rank, width, isDense, isDiagonal}
+use Rattle.rules.specs.Layout.{Layout, rank, isDense, isDiagonal}
 use Rattle.rules.specs.Record.{layoutIn}
 use Rattle.rules.specs.Positions.{unravel}
 use Rattle.rules.specs.Dependencies.{onIndex}
@@ -26,15 +26,15 @@ use Rattle.rules.proofs.Extents.{extent-limited}
 use Rattle.cells.specs.View.{view}
 use Rattle.cells.proofs.View.{view-part, view-pos}
 use Rattle.tables.specs.Rows.{rowAt, rowsAt}
-use Rattle.tables.proofs.Rows.{row-length, row-of, row-ends, length-rows}
+use Rattle.tables.proofs.Rows.{row-of, row-ends, length-rows, five, five-row}
 use Rattle.axes.specs.Extents.{IndexAsked}
 use Rattle.axes.proofs.Indices.{none-zero, unravel-length, unravel-position}
 use Rattle.records.specs.Sound.{SoundRecord}
-use Rattle.records.proofs.Layouts.{axes, rows-room, has-states, has-inputs}
+use Rattle.records.proofs.Layouts.{rows-room, has-states, has-inputs}
 use Rattle.records.proofs.SoundRecords.{lies, layout-sound, layout-shown}
-use Rattle.lookups.proofs.SoundRecords.{record-shape, record-extents}
+use Rattle.records.proofs.Shown.{record-shape, rank-shown, width-shown}
+use Rattle.lookups.proofs.SoundRecords.{record-extents}
 use Rattle.lookups.proofs.Counting.{kind-read, kind-sparse}
-use Rattle.lowering.proofs.Diagonals.{five}
 use Rattle.stretch.specs.Tables.{FitAsked}
 use Rattle.entries.specs.declared.entries.Listed.{Listed}
 use Rattle.entries.specs.declared.entries.Listed.the-variants.{Rows, States, Inputs}
@@ -53,25 +53,7 @@ rows-count l = by (isDense l) (isDiagonal l) refl refl
 
 -- ---- the rows of a record: `row_of`
 
--- the first of five equal numbers
-five-row : (w i : ℕ) → w ≤ 4 → rowAt 0 w (five (pos i)) ≡ replicate w i
-unfolding part view
-five-row zero i h = refl
-five-row (suc zero) i h = refl
-five-row (suc (suc zero)) i h = refl
-five-row (suc (suc (suc zero))) i h = refl
-five-row (suc (suc (suc (suc zero)))) i h = refl
-five-row (suc (suc (suc (suc (suc w))))) i h = absurd (omega arith)
-
 module _ {h : Head} {s : List ℤ} (q : SoundRecord h s) where
-  pub rank-is : rank (layoutIn s) ≡ h .rank
-  rank-is = let b = lies q in sym (ap length (record-shape q)) ∙ row-length 3 (h .rank) s (omega (arith, b .shape-in, b .end-in))
-
-  pub width-is : width (layoutIn s) ≡ h .width
-  width-is =
-      let d : layoutIn s .dense ≡ getD (view s) 1 0 = ap (λ (l : Layout). l .dense) (layout-shown q) in
-      omega (arith, rank-is, d, axes (q .readable))
-
   module _ {i : ℕ} (inside : i < length (rowsOfBlock (layoutIn s))) {k : ℕ} (e : k ≡ getD (view s) 0 0) where
     -- an index of a dense block
     module _ (z : k ≡ 0) where
@@ -101,7 +83,7 @@ module _ {h : Head} {s : List ℤ} (q : SoundRecord h s) where
           let size : length (map pos (unravel i shape)) ≡ rank (layoutIn s) = rw length-map (unravel-length i shape) in
           let made : out ≡ put 0 (map pos (unravel i shape)) row = rw (record-shape q) at is in
           let there : part 0 (rank (layoutIn s)) out ≡ map pos (unravel i shape) =
-          rw made (rw size at (part-put-all 0 (map pos (unravel i shape)) row (omega (arith, rank-is, b .rank-few)))) in
+          rw made (rw size at (part-put-all 0 (map pos (unravel i shape)) row (omega (arith, rank-shown q, b .rank-few)))) in
           rw (dense-rows, kind-dense) (sym (view-part 0 (rank (layoutIn s)) out) ∙ ap view there ∙ view-pos (unravel i shape) ∙ unravel-position i shape dense-inside)
 
     -- (i,..,i)
@@ -126,7 +108,7 @@ module _ {h : Head} {s : List ℤ} (q : SoundRecord h s) where
       is-diagonal is =
           let b = lies q in
           rw (is, diagonal-rows, kind-diagonal)
-          (five-row (rank (layoutIn s)) i (omega (arith, rank-is, b .rank-few))
+          (five-row (rank (layoutIn s)) i (omega (arith, rank-shown q, b .rank-few))
           ∙ sym (map-at (λ j. replicate (rank (layoutIn s)) j) (below extent) i 0 [] (rw from-length diagonal-inside)
           ∙ ap (λ (n : ℕ). replicate (rank (layoutIn s)) n) (from-at 0 extent i 0 diagonal-inside ∙ zero-add i)))
 
@@ -149,7 +131,7 @@ module _ {h : Head} {s : List ℤ} (q : SoundRecord h s) where
 
       pub is-row : (out : List ℤ) → rowAt 0 (h .width) out ≡ rowAt (h .rows .first + i * h .width) (h .width) s →
           rowAt 0 (rowWidth (layoutIn s)) out ≡ getD (rowsOfBlock (layoutIn s)) i []
-      is-row out is = rw (sparse-rows, kind-two, width-is) (is ∙ sym (row-of (h .rows .first) (h .width) (h .rows .count) s i sparse-inside))
+      is-row out is = rw (sparse-rows, kind-two, width-shown q) (is ∙ sym (row-of (h .rows .first) (h .width) (h .rows .count) s i sparse-inside))
 
 -- ---- a dependency: `dep_of`
 

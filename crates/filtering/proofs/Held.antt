@@ -1,9 +1,9 @@
 -- `is_row`, `on_diagonal` and `is_held`: an index is held by the kind of the layout. Assumes nothing.
-use mathlib.Core.Path.{_≡_, refl, sym, _∙_}
+use mathlib.Core.Path.{_≡_, sym, _∙_}
 use mathlib.Core.Bool.{Bool, true, false}
 use mathlib.Core.List.{List}
 use mathlib.Core.Logic.{_⊎_, inl, inr, ⊎-elim}
-use Prim.Native.Nat.{ℕ, _+_, _-_, _<_, _≤_}
+use Prim.Native.Nat.{ℕ, _+_, _<_, _≤_}
 use native.Mathlib.Nat.{add-zero}
 use native.Mathlib.Omega.{arith}
 use borrow.Author.Tests.{ne-eqb}
@@ -14,7 +14,7 @@ use Rattle.rules.specs.Lists.{allBelow}
 use Rattle.rules.specs.RowsInOrder.{among, Increasing, In}
 use Rattle.rules.specs.Layout.{alike}
 use Rattle.rules.specs.Dependencies.{onDiagonal, held}
-use Rattle.rules.proofs.Sets.{among-in, in-among}
+use Rattle.rules.proofs.Sets.{in-among, not-in-among}
 use Rattle.cells.specs.View.{view}
 use Rattle.tables.specs.declared.Spot.{Spot}
 use Rattle.tables.specs.declared.Spot.the-variants.{At, Before}
@@ -23,20 +23,11 @@ use Rattle.tables.specs.Tables.{tableAt, Only}
 use Rattle.tables.proofs.Rows.{row-length, row-number}
 use Rattle.tables.proofs.Spots.{found-in, between-not-in}
 use Rattle.tables.proofs.Only.{view-outside, row-outside, table-outside, ready-outside}
-use Rattle.tables.proofs.Tables.{table-rows, fits-rows}
+use Rattle.tables.proofs.Tables.{table-rows, fits-rows, table-wide}
 use Rattle.parts.specs.Parts.{rowsFrom, statesFrom, kindAt, denseAt, rankAt, widthAt, layoutAt}
-use Rattle.lowering.proofs.LoweredDeps.{table-wide}
 use Rattle.filtering.specs.Filtering.{filterAt, Filters, HeldAsked, DiagonalAsked}
 
 -- ---- rows
-
--- a row that is none of the rows tests so
-not-in-among : (r : List ℕ) (t : List (List ℕ)) → (In r t → ⊥) → among r t ≡ false
-not-in-among r t n = go (among r t) refl
-  where
-    go : (b : Bool) → among r t ≡ b → b ≡ false
-    go true e = absurd (n (among-in r t e))
-    go false e = refl
 
 module _ {at p : ℕ} {s : List ℤ} (a : HeldAsked at p s) where
   abbrev index : List ℕ

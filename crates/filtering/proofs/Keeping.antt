@@ -21,15 +21,13 @@ use Rattle.rules.proofs.Keeping.{keep-increasing, keep-length}
 use Rattle.rules.proofs.Sorting.{sorted-id, sorted-length}
 use Rattle.cells.specs.View.{view}
 use Rattle.tables.specs.Rows.{rowAt, HasRow}
-use Rattle.tables.specs.Tables.{tableAt, roomEnd, Only, Ready, Put}
+use Rattle.tables.specs.Tables.{tableAt, roomEnd, Only, Ready, Put, Taken}
 use Rattle.tables.proofs.Rows.{row-ends, row-of, row-length, has-row}
 use Rattle.tables.proofs.Only.{only-then, row-outside, has-row-outside, table-outside, ready-outside, count-outside}
 use Rattle.tables.proofs.Tables.{table-rows, table-length, fits-rows}
 use Rattle.tables.proofs.Made.{emptied}
+use Rattle.tables.proofs.Taking.{cleared-only, cleared-ready, taken-none, taken-one, taken-then}
 use Rattle.parts.specs.Parts.{statesFrom, rankAt}
-use Rattle.lowering.specs.Lowering.{Taken}
-use Rattle.lowering.proofs.Taking.{taken-none, taken-one, taken-then}
-use Rattle.lowering.proofs.Listing.{cleared-only, cleared-ready}
 use Rattle.filtering.specs.Filtering.{filterAt, Filters, HeldAsked, takenIf, EntryAsked, KeepAsked, Kept}
 use Rattle.filtering.proofs.Held.{rank-same, filter-same, filters-still}
 

@@ -3,7 +3,7 @@ ghost use mathlib.Core.Path.{_≡_};
 ghost use Rattle.rules.specs.RowsInOrder.{among};
 ghost use Rattle.rules.specs.Dependencies.{onDiagonal, held, indexOf};
 ghost use Rattle.tables.specs.Rows.{rowAt};
-ghost use Rattle.lowering.specs.Lowering.{Taken};
+ghost use Rattle.tables.specs.Tables.{Taken};
 ghost use Rattle.parts.specs.Parts.{rankAt};
 ghost use Rattle.filtering.specs.Filtering.{filterAt, HeldAsked, DiagonalAsked, takenIf, EntryAsked, KeepAsked, Kept};
 use tables::Spot;

@@ -22,7 +22,7 @@ use Rattle.rules.specs.Record.{walk, layoutIn, sound, ordered}
 use Rattle.rules.specs.Stretching.{stretched, broadcastToShape}
 use Rattle.rules.specs.Broadcast.{stretchAll}
 use Rattle.rules.specs.Endings.{stepSays}
-use Rattle.rules.proofs.Same.{both-true, true-not-false, same-true}
+use Rattle.rules.proofs.Same.{both-true, true-not-false, same-true, lengths-differ}
 use Rattle.rules.proofs.Sets.{increasing-true}
 use Rattle.rules.proofs.Unions.{never}
 use Rattle.tables.specs.Rows.{rowAt}
@@ -53,14 +53,6 @@ module _ {s : List ℤ} (j : JudgedRecord s) {r : Walk} (e : r ≡ walk s) where
 
 -- ---- `has_shape` and `is_unchanged`
 
--- lists of different lengths differ
-pub same-lengths : (p q : List ℕ) → (length p ≡ length q → ⊥) → same p q ≡ false
-same-lengths p q n = go (same p q) refl
-  where
-    go : (t : Bool) → same p q ≡ t → same p q ≡ false
-    go true e = absurd (n (ap length (same-true e)))
-    go false e = e
-
 module _ {h : Head} {s : List ℤ} (r : SoundRecord h s) (shape : Shape) where
   shape-shown : layoutIn s .shape ≡ rowAt 3 (h .rank) s
   shape-shown = ap (λ (l : Layout). l .shape) (layout-shown r)
@@ -71,7 +63,7 @@ module _ {h : Head} {s : List ℤ} (r : SoundRecord h s) (shape : Shape) where
   -- another rank
   pub rank-differs : ShapeFits shape → (h .rank ≡ shape .rank → ⊥) → false ≡ same (layoutIn s .shape) (extentsOf shape)
   rank-differs f n =
-      sym (same-lengths (layoutIn s .shape) (extentsOf shape)
+      sym (lengths-differ (layoutIn s .shape) (extentsOf shape)
       (λ e. n (sym (row-length 3 (h .rank) s room) ∙ ap length (sym shape-shown) ∙ e ∙ row-length 0 (shape .rank) (shape .extents) (f .extents .room))))
 
   -- the same rank

@@ -17,7 +17,7 @@ use Rattle.rules.specs.Buffers.{part}
 use Rattle.rules.specs.Record.{rowsOf}
 use Rattle.rules.specs.CountsAndForms.{eqNonzeros}
 use Rattle.rules.specs.Broadcast.{dividesBySparse}
-use Rattle.rules.proofs.Same.{both-true, decided, same-true, same-refl, same-rows-true, same-rows-refl}
+use Rattle.rules.proofs.Same.{both-true, decided, same-true, same-refl, same-rows-true, same-rows-refl, lengths-differ}
 use Rattle.rules.proofs.RowsRead.{rows-length, rows-cut, gather-rows}
 use Rattle.cells.specs.View.{view}
 use Rattle.cells.proofs.View.{view-length}
@@ -27,7 +27,6 @@ use Rattle.parts.specs.Parts.{left, right, kindAt, denseAt, rankAt, widthAt, la
 use Rattle.parts.proofs.Packing.{part-cons}
 use Rattle.parts.proofs.Holds.{rank-most, shape-length, dense-most, rows-few}
 use Rattle.fold.specs.Folded.{sameHeads}
-use Rattle.fold.proofs.Bringing.{same-lengths}
 
 -- ---- numbers and rows
 
@@ -43,7 +42,7 @@ head-test k k′ d d′ r r′ p p′ q e f g = by (eqb r r′) refl
 
     by : (t : Bool) → eqb r r′ ≡ t → eqb k k′ && (eqb d d′ && (eqb r r′ && same p p′)) ≡ eqb k k′ && eqb d d′ && same p q
     by true h = rw (h, g (eqb-true r r′ h)) (group (eqb k k′) (eqb d d′) (same p q))
-    by false h = rw (h, same-lengths p q (λ z. eqb-false r r′ h (sym e ∙ z ∙ f))) (group (eqb k k′) (eqb d d′) false)
+    by false h = rw (h, lengths-differ p q (λ z. eqb-false r r′ h (sym e ∙ z ∙ f))) (group (eqb k k′) (eqb d d′) false)
 
 -- a count and the numbers of so many rows decide whether the rows are the same
 rows-test : (w n n′ : ℕ) (x y : List ℕ) → same (n ∷ take (n * w) x) (n′ ∷ take (n * w) y) ≡ sameRows (rowsOf w n x) (rowsOf w n′ y)

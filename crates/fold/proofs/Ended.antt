@@ -31,10 +31,11 @@ use Rattle.axes.specs.Extents.{Extents}
 use Rattle.parts.specs.Parts.{kindAt, denseAt, rankAt, widthAt, layoutAt, Holds}
 use Rattle.parts.specs.Answers.{Says}
 use Rattle.parts.proofs.Holds.{rank-most, rank-is, dense-most, rows-few, states-few, inputs-few}
-use Rattle.combine.proofs.Heads.{stored-number}
 use Rattle.fold.specs.Ended.{BareAsked, bareOf, Bared, SparseEnd}
-use Rattle.rules.proofs.BroadcastEnds.{to-dense-sound, diagonal-sound, end-other, end-full, end-scalar, end-stays, end-diagonal}
-use Rattle.fold.proofs.Steps.{says-refused}
+use Rattle.rules.proofs.BroadcastEnds.{diagonal-sound, end-other, end-full, end-scalar, end-stays, end-diagonal}
+use Rattle.rules.proofs.Forming.{to-dense-sound}
+use Rattle.cells.proofs.View.{stored-number}
+use Rattle.parts.proofs.Saying.{says-refused}
 
 -- ---- `bare`
 

@@ -43,25 +43,14 @@ use Rattle.fold.specs.declared.agreeing.Shape.{Shape}
 use Rattle.fold.specs.Stretched.{extentsOf, BringAsked, AllBringable, Brought, stretchedTo, allStretched}
 use Rattle.fold.specs.Folded.{foldOne, foldFrom, LeftReady, LeftIs, Folded}
 use Rattle.rules.proofs.Folding.{combine-in-order}
+use Rattle.parts.proofs.Saying.{never-done, says-refused, refused-said, done-said}
 use Rattle.fold.proofs.Folds.{fold-back}
 
 -- ---- what a step says
 
-never-done : {x : Refusal} → Refused x ≡ Done → ⊥
-never-done e = let z : _≡_ {A = ℕ} 0 1 = cc in omega arith
-
-pub says-refused : (r : Refusal) {v : Verdict Layout} (at : ℕ) (s : List ℤ) → v ≡ refused (numberOf r) → Says v at s (Refused r)
-says-refused r at s e = record { is = sym e; holds = λ d. absurd (never-done d) }
-
+-- a fold that is refused as the rule is says so
 folded-refused : (r : Refusal) {v : Verdict Layout} (s : List ℤ) → v ≡ refused (numberOf r) → Folded v s (Refused r)
 folded-refused r s e = record { says = says-refused r left s e; ready = λ d. absurd (never-done d) }
-
--- a step that is refused, or done
-pub refused-said : {v : Verdict Layout} {at : ℕ} {s : List ℤ} {step : Step} {why : Refusal} → Says v at s step → step ≡ Refused why → v ≡ refused (numberOf why)
-refused-said {s} d e = sym (d .is) ∙ rw e
-
-pub done-said : {v : Verdict Layout} {at : ℕ} {s : List ℤ} {step : Step} → Says v at s step → step ≡ Done → v ≡ given (layoutAt at s)
-done-said d e = sym (d .is) ∙ rw e
 
 -- ---- `combine_in`
 

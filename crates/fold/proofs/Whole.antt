@@ -26,7 +26,7 @@ use Rattle.rules.proofs.Extents.{extent-nonzero}
 use Rattle.rules.proofs.Unions.{never}
 use Rattle.cells.specs.View.{Low}
 use Rattle.cells.proofs.View.{view-pos}
-use Rattle.shapes.proofs.Fitting.{fit-length, fit-over, fit-low}
+use Rattle.shapes.proofs.Fitting.{fit-over}
 use Rattle.parts.specs.Parts.{left, right, layoutAt, Holds}
 use Rattle.parts.specs.Answers.{Says}
 use Rattle.parts.proofs.Lent.{lentOf, backIn, back-says, lent-part-layout, lent-part-holds}
@@ -36,8 +36,9 @@ use Rattle.fold.specs.declared.agreeing.Shape.{Shape}
 use Rattle.fold.specs.Stretched.{extentsOf, ShapeFits, ShapeIs, RankFew, commonOf, AllAsked, AllBringable, allStretched, told, whether}
 use Rattle.fold.specs.Folded.{broadcastTo}
 use Rattle.rules.proofs.Giving.{Giving, given-such}
+use Rattle.rules.proofs.Replaced.{fit-length, fit-low}
+use Rattle.parts.proofs.Saying.{says-refused, refused-said, done-said}
 use Rattle.fold.proofs.Bringing.{all-stretched, all-bringable}
-use Rattle.fold.proofs.Steps.{says-refused, refused-said, done-said}
 
 -- ---- `stretch_and_fold`
 
@@ -156,7 +157,7 @@ module _ {n : ℕ} {places : List ℕ} {s : List ℤ} (k : EachAt JudgedRecord n
       ask-stretches = (record { inside = k .inside; each = k .known; fits = fits }, few m e .1)
         where
           size : length (shape .extents) ≡ 4
-          size = rw (p .extents-are, common .3) (length-map (fitTo 4 0 (common .0)) pos ∙ fit-length 4 (common .0))
+          size = rw (p .extents-are, common .3) (length-map (fitTo 4 0 (common .0)) pos ∙ fit-length 4 0 (common .0))
 
           fits : ShapeFits shape
           fits = record { extents = record { room = omega (arith, p .rank-is, few m e .0, size); within = rw extents-are within }; few = omega (arith, p .rank-is, few m e .0) }

@@ -1,7 +1,7 @@
 -- `rows_fit` and `sparse`: rows that become a sparse record. Assumes nothing.
 use mathlib.Core.Path.{_≡_, refl, sym, ap, _∙_}
 use mathlib.Core.Bool.{Bool, true, false, not, _&&_}
-use mathlib.Core.List.{List, [], _∷_, map}
+use mathlib.Core.List.{List, [], map}
 use Prim.Native.Nat.{ℕ, zero, suc, min, _+_, _-_, _*_, _<_, _≤_}
 use native.Mathlib.Nat.{mul-zero, mul-le-mul}
 use native.Mathlib.Omega.{arith}
@@ -28,7 +28,8 @@ use Rattle.rules.proofs.RowsRead.{pos-naturals, rows-length, gather-rows}
 use Rattle.rules.proofs.Same.{both-true, decided, true-not-false}
 use Rattle.rules.proofs.Sets.{each-nil}
 use Rattle.rules.proofs.Soundness.{well-formed-true, true-well-formed}
-use Rattle.rules.proofs.Tests.{all-each, each-all}
+use Rattle.rules.proofs.Tests.{all-each, each-all, no-length}
+use Rattle.rules.proofs.Forming.{unformed-made, no-deps-fit}
 use Rattle.cells.specs.View.{view, Low}
 use Rattle.tables.specs.Rows.{rowAt, rowsAt, HasRows}
 use Rattle.tables.proofs.Different.{twice-length}
@@ -40,13 +41,8 @@ use Rattle.forms.specs.Pieces.{pieces, PiecesFit, noDeps, sparseOf}
 use Rattle.forms.specs.Windows.{RowsInside}
 use Rattle.forms.proofs.Packed.{flat}
 use Rattle.forms.proofs.Pieces.{encode-pieces, ends-same}
-use Rattle.forms.proofs.Making.{extents, lent-extents, made-refused, ends-refused, no-deps-fit}
+use Rattle.forms.proofs.Making.{extents, lent-extents, ends-refused}
 use Rattle.forms.proofs.Listing.{below, rows-wide, rows-natural}
-
--- a list that has no length is empty
-no-length : {A : Type 0} (l : List A) → length l ≡ 0 → l ≡ []
-no-length [] e = refl
-no-length (x ∷ l) e = absurd (omega arith)
 
 -- ---- without axes
 
@@ -181,7 +177,7 @@ module _ (s : List ℤ) (n : ℕ) (numbers : List ℤ) {t : Bool} (e : t ≡ all
   sparse-wrong f = by (all nonNeg numbers) refl
     where
       by : (a : Bool) → all nonNeg numbers ≡ a → sparse (shapeIn s) n numbers ≡ refused 12
-      by true q = rw q (made-refused (λ m. true-not-false (rw (q, true-well-formed m)) (sym e ∙ f)))
+      by true q = rw q (unformed-made (λ m. true-not-false (rw (q, true-well-formed m)) (sym e ∙ f)))
       by false q = rw q
 
   pub sparse-refused : (old : List ℤ) → not t ≡ true → EndsIn (inForm encode (sparse (shapeIn s) n numbers)) old (Refused MadeUnsound) old

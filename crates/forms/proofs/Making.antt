@@ -19,18 +19,17 @@ use Rattle.rules.specs.declared.Written.the-variants.{Refused}
 use Rattle.rules.specs.Limits.{productLimit, resultSize}
 use Rattle.rules.specs.Lists.{all, gather}
 use Rattle.rules.specs.Buffers.{part}
-use Rattle.rules.specs.RowsInOrder.{sorted, increasing-nil}
-use Rattle.rules.specs.Layout.{Layout, encode, alike, wellFormed, withinProduct, made, nonzeroProduct}
+use Rattle.rules.specs.RowsInOrder.{sorted}
+use Rattle.rules.specs.Layout.{Layout, encode, alike, withinProduct, nonzeroProduct}
 use Rattle.rules.specs.Record.{natural, naturals, sectionAt, shapeIn, goodExtents, goodShape}
-use Rattle.rules.specs.Refusals.{Verdict, given, refused, inForm, numberOf, lowest}
-use Rattle.rules.specs.Soundness.{WellFormed, DepsFit}
+use Rattle.rules.specs.Refusals.{Verdict, given, refused, inForm, numberOf}
 use Rattle.rules.specs.Endings.{EndsIn, resultAfter}
 use Rattle.rules.specs.CountsAndForms.{dense, newEmpty, diagonal}
 use Rattle.rules.proofs.Made.{Formed, formed-made}
 use Rattle.rules.proofs.RowsRead.{pos-naturals}
 use Rattle.rules.proofs.Same.{both-true, true-not-false}
 use Rattle.rules.proofs.Sets.{each-nil}
-use Rattle.rules.proofs.Soundness.{well-formed-true}
+use Rattle.rules.proofs.Forming.{unformed-made, no-deps-fit}
 use Rattle.cells.specs.View.{view}
 use Rattle.cells.proofs.View.{view-part, view-pos}
 use Rattle.tables.proofs.Rows.{lent-row}
@@ -136,29 +135,16 @@ module _ (rank : ℕ) (h : rank ≤ 4) where
 
 -- ---- diagonal
 
--- a layout that is not well formed is not made
-pub made-refused : {l : Layout} → (WellFormed l → ⊥) → made l ≡ refused 12
-unfolding made lowest
-made-refused {l} n = by (wellFormed l) refl
-  where
-    by : (t : Bool) → wellFormed l ≡ t → made l ≡ refused 12
-    by true e = absurd (n (well-formed-true e))
-    by false e = rw e
-
 -- a refusal leaves the result
 pub ends-refused : {v : Verdict Layout} (why : Refusal) (old : List ℤ) → v ≡ refused (numberOf why) → EndsIn (inForm encode v) old (Refused why) old
 unfolding resultAfter
 ends-refused why old e = rw e (record { answer = refl; result-is = refl })
 
--- no dependencies fit and are small
-pub no-deps-fit : (l : Layout) → DepsFit l []
-no-deps-fit l = record { lengths = each-nil _; increase = increasing-nil }
-
 module _ (s : List ℤ) {rank : ℕ} (j : Judged s) (e : rank ≡ length (shapeIn s)) where
   -- without axes there is none
   pub diagonal-none : (old : List ℤ) → rank ≡ 0 → EndsIn (inForm encode (diagonal (shapeIn s))) old (Refused MadeUnsound) old
   unfolding diagonal numberOf
-  diagonal-none old z = ends-refused MadeUnsound old (made-refused {l = diagonalOf (shapeIn s)} (λ w. let wide = w .diagonal-wide refl in omega arith))
+  diagonal-none old z = ends-refused MadeUnsound old (unformed-made {l = diagonalOf (shapeIn s)} (λ w. let wide = w .diagonal-wide refl in omega arith))
 
   module _ {t : Bool} (f : t ≡ alike (part 1 rank (view s))) where
     same : alike (take (length (shapeIn s) - 0) (shapeIn s)) ≡ t
@@ -168,7 +154,7 @@ module _ (s : List ℤ) {rank : ℕ} (j : Judged s) (e : rank ≡ length (shapeI
     pub diagonal-unlike : (old : List ℤ) → not t ≡ true → EndsIn (inForm encode (diagonal (shapeIn s))) old (Refused MadeUnsound) old
     unfolding diagonal numberOf
     diagonal-unlike old g =
-        ends-refused MadeUnsound old (made-refused {l = diagonalOf (shapeIn s)} (λ w. true-not-false (w .diagonal-alike refl) (same ∙ not-true t g)))
+        ends-refused MadeUnsound old (unformed-made {l = diagonalOf (shapeIn s)} (λ w. true-not-false (w .diagonal-alike refl) (same ∙ not-true t g)))
 
     -- of others there is one
     diagonal-formed : (rank ≡ 0 → ⊥) → not t ≡ false → Formed (diagonalOf (shapeIn s))

@@ -1,7 +1,7 @@
 -- A sound record is the numbers of its layout, section behind section; and those numbers tell the layout. Assumes nothing.
 use mathlib.Core.Path.{_≡_, refl, sym, ap, _∙_}
 use mathlib.Core.List.{List, [], _∷_, _++_, append-assoc, append-nil}
-use Prim.Native.Nat.{ℕ, suc, _+_, _*_, _-_, _<_, _≤_}
+use Prim.Native.Nat.{ℕ, suc, _+_, _*_, _<_, _≤_}
 use native.Mathlib.Omega.{arith}
 use lib.IntN.{ℤ}
 use lib.ListN.{length, getD, take, drop}
@@ -14,7 +14,6 @@ use Rattle.rules.specs.RowsInOrder.{Each}
 use Rattle.rules.specs.Layout.{Layout, rank, width, section}
 use Rattle.rules.specs.Soundness.{WellFormed}
 use Rattle.rules.specs.Record.{layoutIn}
-use Rattle.rules.proofs.Buffers.{length-part}
 use Rattle.rules.proofs.RowsRead.{gather-rows}
 use Rattle.rules.proofs.Sets.{each-head, each-tail}
 use Rattle.cells.specs.View.{view, code}
@@ -24,6 +23,7 @@ use Rattle.tables.proofs.Rows.{length-rows}
 use Rattle.records.specs.Sections.{Laid}
 use Rattle.records.specs.Sound.{SoundRecord}
 use Rattle.records.proofs.SoundRecords.{lies, layout-shown}
+use Rattle.records.proofs.Shown.{shape-size}
 
 -- the numbers of entries, one after the other
 abbrev pub flat : List (List ℕ) → List ℕ
@@ -68,15 +68,11 @@ module _ {h : Head} {s : List ℤ} (r : SoundRecord h s) where
       let end : h .rank + 3 ≡ 3 + h .rank = omega arith in
       rw (end, take-add 3 (h .rank) (view s), front-three (view s) long, count) (unfold part in refl)
 
-  -- its rank
-  rank-shown : length (part 3 (h .rank) (view s)) ≡ h .rank
-  rank-shown = let b = lies r in length-part 3 (h .rank) (view s) (rw view-length (omega arith))
-
   -- up to the end of the rows
   pub rows-packed : take (h .rows .next) (view s) ≡ numbers (layoutIn s) []
   rows-packed =
       let last = append-nil (section (rowsAt (h .rows .first) (h .width) (h .rows .count) s)) in
-      rw (layout-shown r, section-packed (h .rank + 3) (h .width) s (h .rows) (r .readable .head .rows), shape-packed, rank-shown)
+      rw (layout-shown r, section-packed (h .rank + 3) (h .width) s (h .rows) (r .readable .head .rows), shape-packed, shape-size r)
       (ap (λ (l : List ℕ). getD (view s) 0 0 ∷ getD (view s) 1 0 ∷ h .rank ∷ (part 3 (h .rank) (view s) ++ l)) (sym last))
 
   -- all of it
@@ -88,7 +84,7 @@ module _ {h : Head} {s : List ℤ} (r : SoundRecord h s) where
         section-packed (h .rank + 3) (h .width) s (h .rows) (r .readable .head .rows),
         shape-packed,
         layout-shown r,
-        rank-shown,
+        shape-size r,
       )
       (simp append-assoc)
 

@@ -23,6 +23,7 @@ use Rattle.rules.proofs.Sorting.{sorted-has, sorted-only, sorted-increasing, so
 use Rattle.rules.proofs.Keeping.{keep-only, keep-passes, keep-has, keep-increasing, keep-length}
 use Rattle.rules.proofs.Lowering.{Lowered, lowered-is, lowered-few}
 use Rattle.cells.specs.View.{view}
+use Rattle.cells.proofs.View.{stored-number}
 use Rattle.tables.specs.Rows.{rowAt}
 use Rattle.tables.specs.Tables.{tableAt, Only, Ready, CommonRows}
 use Rattle.tables.proofs.Only.{only-then, only-wider, only-same, only-set, view-outside, row-outside, table-outside, ready-outside}
@@ -36,7 +37,6 @@ use Rattle.lowering.proofs.LoweredDeps.{lowered-deps}
 use Rattle.filtering.specs.Filtering.{filterAt, Filters}
 use Rattle.combine.specs.Window.{BothAsked, BothLowered, HeadAsked, HeadMade}
 use Rattle.combine.proofs.Rooms.{first-same, second-same, first-rank, second-rank, window-still}
-use Rattle.combine.proofs.Heads.{stored-number}
 use Rattle.combine.proofs.Both.{ranks, free, lower-first, lower-second, lower-rank}
 use Rattle.intersecting.specs.Intersecting.{loweredList, mergedList, DepsMerged, CommonMade, FillAsked, FilledUp, commonOf, fewCommon, CommonLaid}
 use Rattle.intersecting.proofs.MergedLists.{parts-same}

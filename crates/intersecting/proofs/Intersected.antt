@@ -16,14 +16,13 @@ use Rattle.rules.specs.CountsAndForms.{denseIfFull}
 use Rattle.rules.specs.Removal.{listsRow}
 use Rattle.rules.specs.Pairs.{lowerD, barsExpansion, withMerged}
 use Rattle.rules.specs.Intersect.{intersect}
-use Rattle.rules.proofs.Soundness.{diagonal-rows}
 use Rattle.rules.proofs.Made.{fewOr}
 use Rattle.parts.specs.Parts.{left, right, denseAt, layoutAt}
 use Rattle.combine.specs.declared.window.Way.{Way}
 use Rattle.combine.specs.declared.window.Way.the-variants.{Dense, Diagonals, Rows}
 use Rattle.combine.specs.Window.{wayOf, RowsAsked, BothAsked, mergedStates, mergedInputs, shaped, madeStep, Made, Combined}
-use Rattle.combine.proofs.Ways.{Told, told-diagonals, told-rows, way-told, diagonal-first}
-use Rattle.combine.proofs.Combining.{combine-refused, combine-told, combine-made, shapes-same}
+use Rattle.combine.proofs.Ways.{Told, told-diagonals, told-rows, way-told}
+use Rattle.combine.proofs.Combining.{combine-refused, combine-told, shapes-same, diagonals-combined}
 use Rattle.intersecting.specs.Intersecting.{OrderedWindow, depends, DenseAsked, commonOf, fewCommon, CommonLaid}
 use Rattle.intersecting.proofs.Intersects.{intersect-shapes, intersect-diagonals, rows-barred, rows-meet, rows-listed, rows-told}
 use Rattle.intersecting.proofs.Others.{makes-intersect}
@@ -112,12 +111,9 @@ module _ {s : List ℤ} (q : OrderedWindow s) where
 
     pub diagonals-made : {d : ℕ} {t : List ℤ} {few : Bool} {step : Step} → w ≡ Diagonals → d ≡ denseAt left s →
         Made (shaped 1 d [] (mergedStates s) (mergedInputs s) x) s t few → step ≡ madeStep few → Combined intersect s t step
-    diagonals-made {d} e k m p =
+    diagonals-made e k m p =
         let told = way-told x y w-is e in
-        let kind = diagonal-first told in
-        let dense : d ≡ x .dense = unfold layoutAt in k in
-        let is : shaped 1 d [] (mergedStates s) (mergedInputs s) x ≡ withMerged x y x = rw (kind, dense, diagonal-rows (q .window .first .sound .form) kind) in
-        rw p (combine-made (q .window) makes-intersect (by-diagonals (q .window .first .sound) (q .window .second .sound) shapes told) (rw is at m))
+        rw p (diagonals-combined (q .window) makes-intersect told (by-diagonals (q .window .first .sound) (q .window .second .sound) shapes told) k m)
 
     pub ask-rows : w ≡ Rows → RowsAsked s
     ask-rows e = record { window = q .window; shapes = shapes; way = sym w-is ∙ e }

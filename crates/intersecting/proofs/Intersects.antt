@@ -1,16 +1,16 @@
--- Which answer `intersect` gives of two sound layouts, case by case, and that it is sound. Assumes nothing.
+-- Which answer `intersect` gives of two sound layouts, case by case, and how large its numbers are. Assumes nothing.
 use mathlib.Core.Path.{_≡_, refl, sym, ap, subst, _∙_}
 use mathlib.Core.Bool.{Bool, true, false, not, _&&_, _||_}
 use mathlib.Core.List.{List, [], _∷_}
 use Prim.Native.Nat.{ℕ, _≤_}
 use native.Mathlib.Omega.{arith}
 use borrow.Author.Tests.{eqb-false}
-use lib.Dec.{eqb, ltb}
+use lib.Dec.{ltb}
 use lib.ListN.{length}
-use Rattle.rules.specs.Lists.{if, keep, same, product}
+use Rattle.rules.specs.Lists.{if, keep, same}
 use Rattle.rules.specs.RowsInOrder.{merge, among}
-use Rattle.rules.specs.Refusals.{Verdict, given, refused, inForm, _then_, Reason, _when_, lowest}
-use Rattle.rules.specs.Layout.{Layout, rank, isDense, isDiagonal, isSparse, nonzeroProduct, made}
+use Rattle.rules.specs.Refusals.{given, refused, inForm, _then_, _when_, lowest}
+use Rattle.rules.specs.Layout.{Layout, rank, isDense, isDiagonal, nonzeroProduct, made}
 use Rattle.rules.specs.Limits.{productLimit}
 use Rattle.rules.specs.Soundness.{DepsFit, DepsLow, WellFormed, Sound}
 use Rattle.rules.specs.Dependencies.{filterDeps, barsFilter}
@@ -23,12 +23,12 @@ use Rattle.rules.proofs.Same.{neither, same-true}
 use Rattle.rules.proofs.Sorting.{sorted-each, sorted-sorted}
 use Rattle.rules.proofs.Keeping.{keep-only}
 use Rattle.rules.proofs.Soundness.{OneKind, is-dense, is-diagonal, is-sparse, one-kind}
-use Rattle.rules.proofs.DenseRemoved.{none-removed, before-removed}
-use Rattle.rules.proofs.Made.{fewOr, Formed, sound-formed, formed-made, made-sound, formed-deps, formed-merged}
-use Rattle.rules.proofs.Forming.{DepsOfRank, Framed, states-of-rank, inputs-of-rank, sound-framed, sparse-framed, to-dense-framed, formed-sound}
+use Rattle.rules.proofs.DenseRemoved.{none-removed}
+use Rattle.rules.proofs.Made.{fewOr, Formed, sound-formed, formed-made, formed-deps, formed-merged}
+use Rattle.rules.proofs.Forming.{DepsOfRank, Framed, states-of-rank, inputs-of-rank, sparse-framed, if-full}
 use Rattle.rules.proofs.Lowering.{expands-dense, lowered-diagonal, lowered-same, lowered-removed, Lowered, lowered-is}
-use Rattle.rules.proofs.Unions.{never}
 use Rattle.rules.proofs.Low.{merged-deps-low}
+use Rattle.rules.proofs.IntersectHolds.{Met, of-right, of-left, of-diagonals, of-rows, intersect-gives}
 use Rattle.lowering.specs.Lowering.{loweredDeps}
 use Rattle.lowering.proofs.LoweredDeps.{lowered-deps}
 use Rattle.intersecting.specs.Intersecting.{depends, commonOf, fewCommon}
@@ -214,23 +214,6 @@ module _ {a b : Layout} (p : Sound a) (q : Sound b) (e : same (a .shape) (b .sha
 
 -- ---- what is given
 
--- a layout that turns dense if it is full is sound as before, with low dependencies as before
-full-sound : {l : Layout} → Sound l → Sound (denseIfFull l)
-unfolding denseIfFull toDense
-full-sound {l} s = go (isSparse l && eqb (length (l .rows)) (product (l .shape)))
-  where
-    go : (t : Bool) → Sound (if t (toDense l) l)
-    go true = formed-sound (to-dense-framed (sound-framed s)) (omega arith) (s .sizes .states-few) (s .sizes .inputs-few)
-    go false = s
-
-full-low : {l : Layout} → DepsLow l → DepsLow (denseIfFull l)
-unfolding denseIfFull toDense
-full-low {l} p = go (isSparse l && eqb (length (l .rows)) (product (l .shape)))
-  where
-    go : (t : Bool) → DepsLow (if t (toDense l) l)
-    go true = record { states-low = p .states-low; inputs-low = p .inputs-low }
-    go false = p
-
 -- merged and filtered dependencies of two layouts with low ones are low
 held-low : {x y : Layout} (l : Layout) → DepsLow x → DepsLow y → DepsLow (filteredBy x y l)
 held-low l p q = record { states-low = held-each l (p .states-low) (q .states-low); inputs-low = held-each l (p .inputs-low) (q .inputs-low) }
@@ -242,66 +225,22 @@ low-lowered l d h p = record {
   inputs-low = rw (lowered-deps l d .1) (lowered-low l d h (p .inputs-low));
 }
 
--- what an answer is made of: a layout that was made, with low dependencies if those of both are, as it is or dense if it is full
-pub record Gives (a b l : Layout) : Type 1 where
-  pub whole : Layout
-  pub low : Sound whole → DepsLow a → DepsLow b → DepsLow whole
-  pub turned : (P : Layout → Type 0) → (Sound whole → P whole) → ((m : Layout) → P m → P (denseIfFull m)) → P l
+-- a layout that turns dense if it is full has low dependencies as before
+full-low : {l : Layout} → DepsLow l → DepsLow (denseIfFull l)
+unfolding toDense
+full-low {l} p = if-full DepsLow l p (record { states-low = p .states-low; inputs-low = p .inputs-low })
 
--- where a step is given, no reason held
-step-given : {x : Layout} (reasons : List Reason) (v : Verdict Layout) → (lowest reasons then λ _. v) ≡ given x → v ≡ given x
-step-given {x} reasons v = by (lowest reasons)
-  where
-    by : (r : Verdict Unit) → (r then λ _. v) ≡ given x → v ≡ given x
-    by (given t) e = e
-    by (refused n) e = absurd (never e)
-
--- a layout that was made is the one that is given
-made-is : {a b m l : Layout} → (Sound m → DepsLow a → DepsLow b → DepsLow m) → made m ≡ given l → Gives a b l
-made-is {m} low e = record { whole = m; low = low; turned = λ P f g. let s = made-sound e in subst P (s .0) (f (s .1)) }
-
--- or dense if it is full
-full-is : {a b m l : Layout} → (Sound m → DepsLow a → DepsLow b → DepsLow m) → inForm denseIfFull (made m) ≡ given l → Gives a b l
-full-is {a} {b} {m} {l} low e = go (made m) refl e
-  where
-    go : (v : Verdict Layout) → made m ≡ v → inForm denseIfFull v ≡ given l → Gives a b l
-    go (given k) f h =
-        let s = made-sound f in
-        let same : denseIfFull k ≡ l = cc in
-        record { whole = m; low = low; turned = λ P u g. subst P same (g k (subst P (s .0) (u (s .1)))) }
-    go (refused n) f h = absurd (never h)
-
-pub intersect-gives : (a b : Layout) {l : Layout} → intersect a b ≡ given l → Gives a b l
-unfolding intersect withDense intersectOfRows lowest
-intersect-gives a b {l} e = go (same (a .shape) (b .shape)) (isDense a) (isDense b) (alikeDiagonals a b) refl e
+-- the numbers of an answer's dependencies are below 2 ^ 31 if those of both are
+pub intersect-low : {a b l : Layout} → DepsLow a → DepsLow b → intersect a b ≡ given l → DepsLow l
+intersect-low {a} {b} p q e = let g = intersect-gives a b e in by (g .shapes) (g .met)
   where
     d : ℕ
     d = lowerD a b
 
-    with : (o : Layout) → withDense a b o ≡ given l → Gives a b l
-    with o h = made-is (λ _. held-low o) (step-given (11 when barsMerged a b o ∷ []) (made (filteredBy a b o)) h)
-
-    rows-low : a .shape ≡ b .shape → Sound (commonOf a b d) → DepsLow a → DepsLow b → DepsLow (commonOf a b d)
-    rows-low k s p q =
+    by : a .shape ≡ b .shape → {x : Layout} → Met a b x → DepsLow x
+    by k (of-right f) = held-low b p q
+    by k (of-left f) = held-low a p q
+    by k (of-diagonals f) = merged-deps-low a p q
+    by k (of-rows f h i s) =
         let small : nonzeroProduct (a .shape) ≤ productLimit = rw (lowered-shape a d) at (s .sizes .product-most) in
-        held-low (common (lowered a d) (lowered b d)) (low-lowered a d small p) (low-lowered b d (rw k at small) q)
-
-    go : (s t u v : Bool) → same (a .shape) (b .shape) ≡ s →
-        (lowest (6 when not s ∷ []) then λ _. if t (withDense a b b) (if u (withDense a b a) (if v (made (withMerged a b a)) (intersectOfRows a b)))) ≡ given l → Gives a b l
-    go false t u v k h = absurd (never h)
-    go true true u v k h = with b h
-    go true false true v k h = with a h
-    go true false false true k h = made-is (λ _. merged-deps-low a) h
-    go true false false false k h =
-        full-is (rows-low (same-true k))
-        (before-removed a b (inForm denseIfFull (made (commonOf a b d)))
-        (step-given (11 when (barsExpansion a || barsExpansion b || barsMerged (lowered a d) (lowered b d) (common (lowered a d) (lowered b d)))
-        ∷ 12 when (listsRow a d || listsRow b d) ∷ 13 when not (fewOf (lowered a d) && fewOf (lowered b d)) ∷ []) _ h))
-
--- an answer is sound
-pub intersect-sound : (a b : Layout) {l : Layout} → intersect a b ≡ given l → Sound l
-intersect-sound a b e = intersect-gives a b e .turned Sound (λ s. s) (λ m s. full-sound s)
-
--- and its dependencies' numbers are below 2 ^ 31 if those of both are
-pub intersect-low : {a b l : Layout} → DepsLow a → DepsLow b → intersect a b ≡ given l → DepsLow l
-intersect-low {a} {b} p q e = let g = intersect-gives a b e in g .turned DepsLow (λ s. g .low s p q) (λ m r. full-low r)
+        full-low (held-low (common (lowered a d) (lowered b d)) (low-lowered a d small p) (low-lowered b d (rw k at small) q))

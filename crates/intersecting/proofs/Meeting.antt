@@ -17,7 +17,7 @@ use Rattle.rules.specs.Layout.{Layout, isDiagonal, few}
 use Rattle.rules.specs.Dependencies.{onIndex, barsFilter}
 use Rattle.rules.specs.Removal.{positions, keptAxes, lastPositions, removedDeps}
 use Rattle.rules.specs.Intersect.{barsMerged}
-use Rattle.rules.proofs.Tests.{none-true}
+use Rattle.rules.proofs.Tests.{none-true, no-length, none-some}
 use Rattle.rules.proofs.Places.{in-at}
 use Rattle.rules.proofs.Sorting.{sorted-has}
 use Rattle.rules.proofs.Few.{few-sorted, sorted-few}
@@ -34,16 +34,6 @@ use Rattle.intersecting.specs.Intersecting.{depends, OtherAsked}
 use Rattle.intersecting.proofs.FilteredDeps.{removed-each}
 
 -- ---- lists that are empty
-
--- no entries are none
-empty-of : {A : Type 0} (t : List A) → length t ≡ 0 → t ≡ []
-empty-of [] e = refl
-empty-of (x ∷ t) e = absurd (omega arith)
-
-some-of : {A : Type 0} (t : List A) → 0 < length t → none t ≡ false
-unfolding none
-some-of [] h = absurd (omega arith)
-some-of (x ∷ t) h = refl
 
 -- a row that was put in is there
 none-insert : (r : List ℕ) (t : List (List ℕ)) → none (insert r t) ≡ false
@@ -136,7 +126,7 @@ module _ {at : ℕ} (d : ℕ) {s : List ℤ} (h : Holds at s) {m n : ℕ} (m-is 
   pub deps-none : m + n ≡ 0 → false ≡ depends l d
   deps-none e =
       neither-some (none (loweredDeps l d (l .states))) (none (loweredDeps l d (l .inputs)))
-      (lowered-none (empty-of (l .states) (omega (arith, states-count)))) (lowered-none (empty-of (l .inputs) (omega (arith, inputs-count))))
+      (lowered-none (no-length (l .states) (omega (arith, states-count)))) (lowered-none (no-length (l .inputs) (omega (arith, inputs-count))))
 
   module _ (some : m + n ≡ 0 → ⊥) {r : Bool} (r-is : r ≡ removesAxes l d) where
     counted : (0 < length (l .states)) ⊎ (0 < length (l .inputs))
@@ -147,8 +137,8 @@ module _ {at : ℕ} (d : ℕ) {s : List ℤ} (h : Holds at s) {m n : ℕ} (m-is 
     deps-kept e = rw (sym r-is ∙ e) (either-some (none (l .states)) (none (l .inputs)) (go counted))
       where
         go : (0 < length (l .states)) ⊎ (0 < length (l .inputs)) → (none (l .states) ≡ false) ⊎ (none (l .inputs) ≡ false)
-        go (inl k) = inl (some-of (l .states) k)
-        go (inr k) = inr (some-of (l .inputs) k)
+        go (inl k) = inl (none-some (l .states) k)
+        go (inr k) = inr (none-some (l .inputs) k)
 
     -- axes are removed: it keeps some unless there is no index
     module _ (e : r ≡ true) {k : ℕ} (k-is : k ≡ rankAt at s) {dense : ℕ} (dense-is : dense ≡ denseAt at s) where
@@ -171,7 +161,7 @@ module _ {at : ℕ} (d : ℕ) {s : List ℤ} (h : Holds at s) {m n : ℕ} (m-is 
           by : (x : ℕ) → size ≡ x → ltb 0 x ≡ not (none (removedDeps l d (l .states)) && none (removedDeps l d (l .inputs)))
           by zero z =
               neither-some (none (removedDeps l d (l .states))) (none (removedDeps l d (l .inputs)))
-              (removed-none l d (l .states) (inr (empty-of (lastPositions l d) (long ∙ z)))) (removed-none l d (l .inputs) (inr (empty-of (lastPositions l d) (long ∙ z))))
+              (removed-none l d (l .states) (inr (no-length (lastPositions l d) (long ∙ z)))) (removed-none l d (l .inputs) (inr (no-length (lastPositions l d) (long ∙ z))))
           by (suc x) z = lt-ltb 0 (suc x) (omega arith) ∙ either-some (none (removedDeps l d (l .states))) (none (removedDeps l d (l .inputs))) (go counted)
             where
               go : (0 < length (l .states)) ⊎ (0 < length (l .inputs)) → (none (removedDeps l d (l .states)) ≡ false) ⊎ (none (removedDeps l d (l .inputs)) ≡ false)

@@ -11,12 +11,12 @@ use Rattle.rules.specs.Layout.{Layout, few, withDeps}
 use Rattle.rules.specs.Dependencies.{held, indexOf, filterDeps}
 use Rattle.rules.proofs.Same.{true-not-false}
 use Rattle.rules.proofs.Sorting.{sorted-id}
-use Rattle.tables.specs.Tables.{tableAt, Only, Ready, PairAsked, Merged}
+use Rattle.tables.specs.Tables.{tableAt, Only, Ready, PairAsked, Merged, Listed}
 use Rattle.tables.proofs.Only.{only-then, only-wider, table-outside, ready-outside}
 use Rattle.tables.proofs.Made.{merged-ready}
 use Rattle.parts.specs.Parts.{partSize, statesFrom, inputsFrom, windowSize, left, right, target, spare, otherSpare, rankAt, layoutAt, Holds, Window}
 use Rattle.parts.proofs.Holds.{rank-most, states-ready, inputs-ready}
-use Rattle.lowering.specs.Lowering.{DepsAsked, Listed}
+use Rattle.lowering.specs.Lowering.{DepsAsked}
 use Rattle.filtering.specs.Filtering.{filterAt, KeepAsked, Kept}
 use Rattle.filtering.proofs.Held.{rank-same, filter-same, filters-still}
 use Rattle.combine.proofs.Rooms.{first-same, second-same, first-rank, second-rank, window-still}

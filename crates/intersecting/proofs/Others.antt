@@ -25,6 +25,7 @@ use Rattle.rules.specs.Intersect.{filteredBy, barsMerged, withDense, intersect}
 use Rattle.rules.proofs.Same.{same-true}
 use Rattle.rules.proofs.Buffers.{length-part, part-put-all}
 use Rattle.rules.proofs.Sets.{increasing-true}
+use Rattle.rules.proofs.IntersectHolds.{intersect-sound}
 use Rattle.cells.specs.View.{view}
 use Rattle.cells.proofs.View.{view-part}
 use Rattle.tables.specs.Tables.{tableAt, Only, Ready}
@@ -40,7 +41,7 @@ use Rattle.combine.proofs.Ways.{Told, told-dense, way-told}
 use Rattle.combine.proofs.Rooms.{first-same, second-same, first-rank, second-rank, window-still}
 use Rattle.combine.proofs.Combining.{Makes, combine-refused, combine-told}
 use Rattle.intersecting.specs.Intersecting.{OtherAsked, MergeAsked, loweredList, mergedList, DepsMerged, otherOf, DenseAsked}
-use Rattle.intersecting.proofs.Intersects.{left-dense, right-dense, dense-barred, dense-given, intersect-sound, intersect-low}
+use Rattle.intersecting.proofs.Intersects.{left-dense, right-dense, dense-barred, dense-given, intersect-low}
 use Rattle.intersecting.proofs.Meeting.{keeps-axes}
 use Rattle.intersecting.proofs.MergedLists.{parts-same}
 use Rattle.intersecting.proofs.CommonRows.{fewer}

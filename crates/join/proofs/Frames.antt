@@ -9,12 +9,11 @@ use borrow.Author.Tests.{not-true, not-false}
 use lib.IntN.{ℤ, pos}
 use lib.ListN.{length, getD, set, take, drop}
 use lib.Seq.{take-all}
-use Rattle.rules.specs.declared.Refusal.{Refusal}
 use Rattle.rules.specs.declared.Refusal.the-variants.{MadeTooLarge}
 use Rattle.rules.specs.declared.Step.{Step}
 use Rattle.rules.specs.declared.Step.the-variants.{Done, Refused}
 use Rattle.rules.specs.Buffers.{part}
-use Rattle.rules.specs.Refusals.{Verdict, given, refused, numberOf}
+use Rattle.rules.specs.Refusals.{given, numberOf}
 use Rattle.rules.specs.Layout.{Layout, rank, few, withinProduct, withinSizes, made}
 use Rattle.rules.specs.Soundness.{WellFormed, DepsLow}
 use Rattle.rules.specs.Concatenate.{Block, joinedDeps}
@@ -33,6 +32,7 @@ use Rattle.parts.specs.Answers.{Says}
 use Rattle.parts.proofs.Copied.{number-copied, part-copied}
 use Rattle.parts.proofs.Lent.{lentOf, backIn, lent-length, lent-again, back-only}
 use Rattle.moving.specs.Sections.{HeadMade}
+use Rattle.parts.proofs.Saying.{says-refused}
 use Rattle.entries.specs.declared.entries.Listed.the-variants.{States, Inputs}
 use Rattle.entries.specs.Merging.{Tabled, joined, blocksOf}
 use Rattle.join.specs.Assembling.{bare, withJoined, Framed, FrameAsked, FrameMade, DepsAsked, DepsMade, CompleteAsked}
@@ -194,14 +194,6 @@ module _ {l : Layout} {t : List ℤ} (f : Framed l t) where
 
 -- ---- `complete`
 
--- a refusal is no answer
-never-done : {x : Refusal} → Refused x ≡ Done → ⊥
-never-done e = let z : _≡_ {A = ℕ} 0 1 = cc in omega arith
-
--- a step that is refused says so
-pub says-refused : (x : Refusal) {v : Verdict Layout} (s : List ℤ) → v ≡ refused (numberOf x) → Says v target s (Refused x)
-says-refused x s e = record { is = sym e; holds = λ d. absurd (never-done d) }
-
 module _ {r n : ℕ} {places : List ℕ} {starts : List (List ℕ)} {src s : List ℤ} (a : CompleteAsked r n places starts src s) where
   abbrev blocks : List Block
   blocks = blocksOf r n places src
@@ -216,7 +208,7 @@ module _ {r n : ℕ} {places : List ℕ} {starts : List (List ℕ)} {src s : Lis
     -- too many dependencies, or too large ones: 13
     pub too-large : b ≡ false → Says (made (withJoined r blocks frame)) target t (Refused MadeTooLarge)
     unfolding numberOf
-    too-large e = says-refused MadeTooLarge t (form-made (a .form) ∙ rw (within, e))
+    too-large e = says-refused MadeTooLarge target t (form-made (a .form) ∙ rw (within, e))
 
     module _ (e : b ≡ true) where
       number-stays : (k : ℕ) → k < 520 → getD (view t) (target + k) 0 ≡ getD (view s) (target + k) 0

@@ -45,12 +45,12 @@ use Rattle.blocks.specs.Joins.{wayOf, shapeBy, joinOf}
 use Rattle.blocks.proofs.Given.{at-hand, join-given}
 use Rattle.blocks.proofs.Joined.{way-named, join-by, join-shape, join-axes}
 use Rattle.blocks.proofs.Verdicts.{way-diagonal, way-rows, blocks-formed}
+use Rattle.parts.proofs.Saying.{says-refused}
 use Rattle.entries.specs.declared.entries.Listed.the-variants.{Rows as RowsOf, States, Inputs}
 use Rattle.entries.specs.Listing.{rowWidth}
 use Rattle.entries.specs.Merging.{blocksOf}
 use Rattle.join.specs.Assembling.{bare, withJoined, byRows, FrameMade, DepsAsked, BareAsked, DiagonalAsked, SparseAsked, JoinAsked}
 use Rattle.join.proofs.Sizes.{rows-small}
-use Rattle.join.proofs.Frames.{says-refused}
 use Rattle.join.proofs.Handing.{handed, all-asked}
 
 -- ---- what the way says of each block
@@ -136,7 +136,7 @@ module _ {r n : ℕ} {places records : List ℕ} {starts : List (List ℕ)} {s t
     -- they cannot be joined: 10
     pub not-joined : j .way ≡ Unjoinable → (u : List ℤ) → Says (joinBlocks r its) target u (Refused Refuses)
     unfolding numberOf
-    not-joined f u = says-refused Refuses u (join-by r its is f)
+    not-joined f u = says-refused Refuses target u (join-by r its is f)
 
     module _ (extents : List ℤ) (four : length extents ≡ 4) (view-is : view extents ≡ j .extents) where
       shape-is : {way : Way} → j .way ≡ way → (way ≡ Unjoinable → ⊥) → rowAt 0 r extents ≡ shapeBy way r its

@@ -2,12 +2,12 @@
 use mathlib.Core.Path.{_≡_, refl, sym, _∙_}
 use mathlib.Core.Bool.{Bool, true, false, _&&_}
 use mathlib.Core.List.{List, [], _∷_}
-use Prim.Native.Nat.{ℕ, zero, suc, _-_, _<_}
+use Prim.Native.Nat.{ℕ, zero, suc, _-_}
 use native.Mathlib.Nat.{le-trans}
 use native.Mathlib.Omega.{arith}
 use borrow.Author.Tests.{ltb-true, lt-ltb, leb-true, le-leb}
 use lib.Dec.{leb, ltb}
-use lib.ListN.{length, getD, take, replicate}
+use lib.ListN.{length, take, replicate, getD-replicate}
 use Rattle.rules.specs.Limits.{productLimit, componentLimit}
 use Rattle.rules.specs.Lists.{all, allBelow}
 use Rattle.rules.specs.RowsInOrder.{sorted}
@@ -67,11 +67,6 @@ sizes-kept r blocks l e =
 
 -- ---- rows
 
-same-at : (n v k : ℕ) → k < n → getD (replicate n v) k 0 ≡ v
-same-at zero v k h = absurd (omega arith)
-same-at (suc n) v zero h = refl
-same-at (suc n) v (suc k) h = same-at n v k (omega arith)
-
 -- rows that are below extents within the limit are small
 pub rows-small : (d : ℕ) (shape : List ℕ) (r : ℕ) (blocks : List Block) → WellFormed (sparseOf d shape r blocks) → length shape ≡ r → withinProduct shape ≡ true →
     all (smallTo (r - d)) (joined Rows r blocks) ≡ true
@@ -83,4 +78,4 @@ rows-small d shape r blocks f e w =
     at-below q (replicate (r - d) productLimit)
     (λ k h.
     let most = le-trans (extent-nonzero shape k 0 (omega arith)) (leb-true (nonzeroProduct shape) productLimit w) in
-    omega (arith, same-at (r - d) productLimit k (omega (arith, long, e)), below-at q shape (f .rows-below q (sorted-has m)) k h (omega (arith, long)), most)))
+    omega (arith, getD-replicate (r - d) k productLimit 0 (omega (arith, long, e)), below-at q shape (f .rows-below q (sorted-has m)) k h (omega (arith, long)), most)))

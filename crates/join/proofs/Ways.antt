@@ -35,11 +35,12 @@ use Rattle.tables.proofs.Tables.{table-length}
 use Rattle.tables.proofs.Made.{emptied}
 use Rattle.parts.specs.Parts.{windowSize, target, spare, extentsFrom, rowsFrom, layoutAt}
 use Rattle.parts.specs.Answers.{Says}
+use Rattle.parts.proofs.Saying.{says-refused}
 use Rattle.entries.specs.declared.entries.Listed.the-variants.{Rows}
 use Rattle.entries.specs.Merging.{Tabled, joined, blocksOf}
 use Rattle.join.specs.Assembling.{bare, sparseOf, withJoined, byRows, Framed, FrameAsked, FrameMade, DepsAsked, CompleteAsked, BareAsked, DiagonalAsked, RowsAsked, RowsMade, SparseAsked}
 use Rattle.join.proofs.Sizes.{sizes-kept}
-use Rattle.join.proofs.Frames.{ask-complete, said-same, says-refused}
+use Rattle.join.proofs.Frames.{ask-complete, said-same}
 
 -- a test that fails and one that holds
 sizes-over : {v : Verdict Layout} (l : Layout) {b : Bool} → v ≡ if b (given l) (refused 13) → b ≡ false → v ≡ refused 13
@@ -69,7 +70,7 @@ module _ {kind dense : ℕ} (extents : List ℤ) {r n : ℕ} {places : List ℕ}
     pub bare-over : not b ≡ true → (t : List ℤ) → Says (made (withJoined r bareBlocks bareFrame)) target t (Refused MadeTooLarge)
     unfolding numberOf
     bare-over e t =
-        says-refused MadeTooLarge t
+        says-refused MadeTooLarge target t
         (sizes-over (withJoined r bareBlocks bareFrame) (form-made (a .form)) (sizes-kept r bareBlocks bareFrame bare-rank ∙ rw (← told, not-true b e)))
 
     module _ (e : not b ≡ false) {t : List ℤ} (m : FrameMade bareFrame s t) where
@@ -94,7 +95,7 @@ module _ {dense : ℕ} (extents : List ℤ) {r n : ℕ} {places : List ℕ} {sta
   unfolding numberOf
   line-none e t =
       let none : length (rowAt 0 r extents) - dense ≡ 0 = omega (arith, line-rank) in
-      says-refused MadeUnsound t (bad-diagonal-made (withJoined r (blocksOf r n places src) line) refl (rw none))
+      says-refused MadeUnsound target t (bad-diagonal-made (withJoined r (blocksOf r n places src) line) refl (rw none))
 
   pub ask-line : (r ≡ dense → ⊥) → BareAsked 1 dense extents r n places starts src s
   ask-line n = record {
@@ -251,7 +252,7 @@ module _ {dense : ℕ} (extents : List ℤ) {r n : ℕ} {places : List ℕ} {sta
     -- the product is over the limit: 13
     pub product-over : not b ≡ true → (t : List ℤ) → Says (byRows dense (rowAt 0 r extents) r itsBlocks) target t (Refused MadeTooLarge)
     unfolding numberOf
-    product-over e t = says-refused MadeTooLarge t (over (rw (← told, not-true b e)))
+    product-over e t = says-refused MadeTooLarge target t (over (rw (← told, not-true b e)))
 
     module _ (e : not b ≡ false) where
       inside : withinProduct (rowAt 0 r extents) ≡ true
@@ -267,7 +268,7 @@ module _ {dense : ℕ} (extents : List ℤ) {r n : ℕ} {places : List ℕ} {sta
         -- the rows are too many: 13
         pub rows-many : not c ≡ true → Says (byRows dense (rowAt 0 r extents) r itsBlocks) target t (Refused MadeTooLarge)
         unfolding numberOf
-        rows-many f = says-refused MadeTooLarge t (over (rw (inside, few-told, not-true c f)))
+        rows-many f = says-refused MadeTooLarge target t (over (rw (inside, few-told, not-true c f)))
 
         module _ (f : not c ≡ false) where
           few-rows : few (sorted (joined Rows r itsBlocks)) ≡ true

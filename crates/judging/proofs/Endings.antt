@@ -1,5 +1,5 @@
 -- How a call ends that is lent a result and a working buffer, over any reasons behind 1 and 2 and any step behind them. Assumes nothing.
-use mathlib.Core.Path.{_≡_, sym, subst}
+use mathlib.Core.Path.{_≡_, refl, sym, subst}
 use mathlib.Core.Bool.{Bool, true, false, _||_}
 use mathlib.Core.List.{List, [], _∷_}
 use Prim.Native.Nat.{ℕ, _≤_}
@@ -31,6 +31,11 @@ unfolding lowest
 early true b rest {n} e = let is : n ≡ 1 = cc in (e, rw is)
 early false true rest {n} e = let is : n ≡ 2 = cc in (e, rw is)
 early false false rest e = let z : _≡_ {A = ℕ} 0 1 = cc in absurd (omega arith)
+
+-- where there is no reason, none holds
+pub nothing-more : lowest [] ≡ given tt
+unfolding lowest
+nothing-more = refl
 
 -- neither is: the other reasons decide
 others : {told : Bool} {m n : ℕ} (rest : List Reason) → SizesKept told m n → lowest (sizeReasons told m n rest) ≡ lowest rest

@@ -1,4 +1,4 @@
--- How a call on two records ends, by any rule and with any reasons behind 3. Assumes nothing.
+-- How a call on two records ends, by any rule and with any reasons behind 3; two rules are refused with 3 or more. Assumes nothing.
 use mathlib.Core.Path.{_≡_, _∙_}
 use mathlib.Core.Bool.{Bool, not, _&&_, _||_}
 use mathlib.Core.List.{List, _∷_}
@@ -21,7 +21,10 @@ use Rattle.rules.specs.Layout.{Layout, encode}
 use Rattle.rules.specs.Record.{layoutIn, sound}
 use Rattle.rules.specs.Arguments.{overRecord}
 use Rattle.rules.specs.Endings.{Ends}
+use Rattle.rules.specs.Union.{union}
+use Rattle.rules.specs.Intersect.{intersect}
 use Rattle.rules.proofs.Refusing.{Reasons}
+use Rattle.rules.proofs.RefusedWith.{union-refusing, intersect-refusing}
 use Rattle.records.specs.Sound.{SoundRecord, soundHead, ReadableHead}
 use Rattle.tables.specs.Tables.{Only}
 use Rattle.parts.specs.Answers.{Says, Finished}
@@ -32,6 +35,14 @@ use Rattle.judging.specs.LentSizes.{sizeReasons, SizesKept, SizesAre}
 use Rattle.judging.proofs.LentSizes.{kept-told, refused-told, told-either}
 use Rattle.judging.proofs.SoundRecords.{unsound-first, unsound-second, pair-unsound, pair-passed}
 use Rattle.judging.proofs.Endings.{ends-early, ends-late, ends-done}
+
+-- a union that is refused is refused with 3 or more
+pub late-union : (a b : Layout) → Late (union a b)
+late-union = union-refusing AboveTwo (omega arith) (omega arith) (omega arith) (omega arith)
+
+-- an intersection is
+pub late-intersect : (a b : Layout) → Late (intersect a b)
+late-intersect = intersect-refusing AboveTwo (omega arith) (omega arith) (omega arith) (omega arith)
 
 module _ (rule : Layout → Layout → Verdict Layout) (more : List Reason) (s t result work : List ℤ) where
   -- 3 and what else the call can be refused for

@@ -2,9 +2,7 @@
 use mathlib.Core.Path.{_≡_, refl, sym, ap, _∙_}
 use mathlib.Core.Bool.{Bool}
 use mathlib.Core.List.{List, [], _∷_, map}
-use Prim.Native.Nat.{ℕ, suc, _≤_}
-use native.Mathlib.Omega.{arith}
-use borrow.Author.Tests.{ne-eqb}
+use Prim.Native.Nat.{ℕ, _≤_}
 use lib.Dec.{eqb}
 use lib.IntN.{ℤ}
 use lib.ListN.{length, length-map}
@@ -18,6 +16,7 @@ use Rattle.rules.specs.Record.{shapeIn}
 use Rattle.rules.specs.Refusals.{Verdict, given, refused, numberOf}
 use Rattle.rules.specs.Shapes.{commonShape}
 use Rattle.rules.specs.Endings.{TupleIs}
+use Rattle.rules.proofs.Tests.{none-counted}
 use Rattle.shapes.proofs.Fitting.{within-fit}
 use Rattle.lists.specs.Places.{standing, Inside}
 use Rattle.lists.specs.Asked.{shapesAt}
@@ -41,12 +40,6 @@ pub tuple-given : {v : Verdict (List ℕ)} {n : ℕ} {four : List ℕ} (l : List
 tuple-given l e f g = rw (← g) (record { count = ap given e; numbers = f })
 
 -- ---- the common shape
-
--- a list is empty if none is counted
-none-counted : (l : List (List ℕ)) → none l ≡ eqb (length l) 0
-unfolding none
-none-counted [] = refl
-none-counted (x ∷ l) = sym (ne-eqb (suc (length l)) 0 (λ e. omega arith))
 
 module _ {n : ℕ} {places : List ℕ} {s : List ℤ} (p : Inside n places s) where
   -- there is nothing to broadcast if none is counted

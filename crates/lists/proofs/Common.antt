@@ -2,7 +2,7 @@
 use mathlib.Core.Path.{_≡_, refl, sym, ap, _∙_}
 use mathlib.Core.Bool.{Bool, true, false, _&&_, _||_}
 use mathlib.Core.List.{List, [], _∷_, map}
-use Prim.Native.Nat.{ℕ, zero, suc, _+_, _-_, _^_, _<_, _≤_}
+use Prim.Native.Nat.{ℕ, zero, suc, _+_, _-_, _<_, _≤_}
 use native.Mathlib.Nat.{zero-add}
 use native.Mathlib.Numerals.{add-one}
 use native.Mathlib.Omega.{arith}
@@ -19,11 +19,12 @@ use Rattle.rules.specs.Shapes.{extents, commonExtent, axisAgrees, shapesAgree, 
 use Rattle.rules.proofs.Ranges.{from-length, from-at}
 use Rattle.rules.proofs.Largest.{larger-is}
 use Rattle.rules.proofs.Tests.{all-at}
+use Rattle.rules.proofs.Replaced.{fit-low}
+use Rattle.rules.proofs.Moved.{map-low}
 use Rattle.cells.specs.View.{Low}
 use Rattle.tables.proofs.Passing.{Passed, none-passed, one-more, one-fails, all-passed}
 use Rattle.shapes.specs.Judged.{Judged}
 use Rattle.shapes.proofs.Judging.{extent-small, rank-counted, rank-small}
-use Rattle.shapes.proofs.Fitting.{fit-low}
 use Rattle.shapes.proofs.Stretching.{larger-zero}
 use Rattle.lists.specs.declared.agreeing.Measure.{Measure}
 use Rattle.lists.specs.declared.agreeing.Measure.the-variants.{Rank, Extent}
@@ -193,11 +194,6 @@ unfolding commonShape
 length-common shapes = length-map (below (largest (map length shapes))) (λ axis. commonExtent axis shapes) ∙ from-length 0 (largest (map length shapes))
 
 -- its extents are as small as those of the shapes
-map-low : (f : ℕ → ℕ) → ((a : ℕ) → f a < 2 ^ 31) → (l : List ℕ) → Low (map f l)
-map-low f h [] k = omega arith
-map-low f h (a ∷ l) zero = h a
-map-low f h (a ∷ l) (suc k) = map-low f h l k
-
 pub common-low : (n : ℕ) (places : List ℕ) (s : List ℤ) {four : List ℕ} → EachAt Judged n places s → four ≡ fitTo rankLimit 0 (commonShape (shapesAt n places s)) → Low four
 unfolding commonShape
 common-low n places s p f =

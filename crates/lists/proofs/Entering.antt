@@ -12,7 +12,7 @@ use lib.ListN.{length, getD, set, replicate, length-map, length-replicate, lengt
 use lib.Seq.{getD-set-same, getD-set-other, getD-take, ext-getD}
 use Rattle.rules.specs.Lists.{below, fitTo}
 use Rattle.rules.proofs.Ranges.{from-length, from-at, map-at}
-use Rattle.shapes.proofs.Fitting.{fit-length}
+use Rattle.rules.proofs.Replaced.{fit-length}
 
 -- the first i of n entries are right, the others are still empty
 pub record Entered {A : Type 0} (right : ℕ → A → Type 0) (n : ℕ) (empty : A) (i : ℕ) (out : List A) : Type 0 where
@@ -74,7 +74,7 @@ module _ {f : ℕ → ℕ} {n : ℕ} where
 
     -- behind them stand zeros
     pub filled-done : n ≤ k → out ≡ fitTo 4 0 (map f (below n))
-    filled-done h = ext-getD 0 out (fitTo 4 0 (map f (below n))) (p .entered .size ∙ sym (fit-length 4 (map f (below n)))) (λ j i. by j (omega (arith, p .entered .size)) (ltb j n) refl)
+    filled-done h = ext-getD 0 out (fitTo 4 0 (map f (below n))) (p .entered .size ∙ sym (fit-length 4 0 (map f (below n)))) (λ j i. by j (omega (arith, p .entered .size)) (ltb j n) refl)
       where
         by : (j : ℕ) → j < 4 → (t : Bool) → ltb j n ≡ t → getD out j 0 ≡ getD (fitTo 4 0 (map f (below n))) j 0
         by j i true e =

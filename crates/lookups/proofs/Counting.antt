@@ -17,7 +17,8 @@ use Rattle.tables.proofs.Rows.{length-rows}
 use Rattle.records.specs.Sound.{SoundRecord}
 use Rattle.records.proofs.Sections.{other-default}
 use Rattle.records.proofs.SoundRecords.{layout-shown, layout-sound}
-use Rattle.lookups.proofs.SoundRecords.{lent-shape, lent-inside, record-shape}
+use Rattle.records.proofs.Shown.{record-shape}
+use Rattle.lookups.proofs.SoundRecords.{lent-shape, lent-inside}
 
 -- a kind stands in the slice
 pub kind-inside : {h : Head} {s : List ℤ} → SoundRecord h s → 0 < length s

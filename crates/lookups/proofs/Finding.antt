@@ -2,10 +2,10 @@
 use mathlib.Core.Path.{_≡_, refl, sym, ap, _∙_}
 use mathlib.Core.Bool.{Bool, true, false, not}
 use mathlib.Core.List.{List, [], _∷_, map}
-use Prim.Native.Nat.{ℕ, zero, suc, _+_, _-_, _<_, _≤_, _^_}
+use Prim.Native.Nat.{ℕ, _+_, _-_, _≤_}
 use native.Mathlib.Omega.{arith}
-use borrow.Author.Tests.{eqb-true, eq-eqb, leb-true, not-true, not-false}
-use lib.Dec.{eqb, leb}
+use borrow.Author.Tests.{eqb-true, eq-eqb, not-true, not-false}
+use lib.Dec.{eqb}
 use lib.IntN.{ℤ, pos, negsuc}
 use lib.ListN.{length, getD, take, drop, length-append, length-map, length-take}
 use lib.Seq.{getD-drop, take-at, take-all}
@@ -21,24 +21,23 @@ use Rattle.rules.specs.Refusals.{Verdict, given}
 use Rattle.rules.specs.Positions.{ravelIndex}
 use Rattle.rules.specs.Endings.{Lookup, found, nothing}
 use Rattle.rules.specs.Lookup.{readIndex, placeFrom, placeOf, lookup}
-use Rattle.rules.proofs.Buffers.{length-part}
 use Rattle.rules.proofs.Finding.{read-length, lookup-inside, place-dense, place-diagonal, place-sparse}
 use Rattle.rules.proofs.Same.{both-true}
 use Rattle.rules.proofs.Sections.{naturals-pos}
 use Rattle.rules.proofs.Sets.{increasing-true}
 use Rattle.rules.proofs.Tests.{true-both}
 use Rattle.cells.specs.View.{view}
-use Rattle.cells.proofs.View.{view-length, view-pos}
-use Rattle.tables.specs.Rows.{rowAt, rowsAt, HasRow, HasRows}
+use Rattle.cells.proofs.View.{view-pos}
+use Rattle.tables.specs.Rows.{rowAt, rowsAt, HasRow}
 use Rattle.tables.proofs.Rows.{row-length}
 use Rattle.records.specs.Sound.{SoundRecord}
-use Rattle.records.proofs.Layouts.{axes, has-rows-there}
 use Rattle.records.proofs.Naturals.{low-front}
-use Rattle.records.proofs.SoundRecords.{lies, layout-shown}
+use Rattle.records.proofs.SoundRecords.{lies, layout-shown, sound-rows}
+use Rattle.records.proofs.Shown.{record-shape, rank-shown, width-shown}
 use Rattle.shapes.proofs.Judging.{rank-counted}
 use Rattle.shapes.proofs.Reading.{components-small, length-naturals, natural-getD}
 use Rattle.lookups.specs.Indices.{IndexRead}
-use Rattle.lookups.proofs.SoundRecords.{shape-shown, shape-judged, lent-shape, record-shape, record-extents}
+use Rattle.lookups.proofs.SoundRecords.{shape-shown, shape-judged, lent-shape, record-extents}
 use Rattle.lookups.proofs.Counting.{kind-read, kind-sparse}
 
 -- ---- natural numbers in a slice
@@ -161,16 +160,9 @@ module _ {h : Head} {s index read : List ℤ} (r : SoundRecord h s) (i : IndexRe
           j ∙ ap given (sym (looked-up ∙ place-diagonal (layoutIn s) (naturals index) numbers (kind-read r d ∙ z) ∙ rw (← first)))
 
       -- in a sparse one
-      wide : width (layoutIn s) ≡ h .width
-      wide =
-          let b = lies r in
-          let sum = axes (r .readable) in
-          let rank : length (part 3 (h .rank) (view s)) ≡ h .rank = length-part 3 (h .rank) (view s) (rw view-length (omega arith)) in
-          rw (layout-shown r) (omega arith)
-
       row-read : rowAt 0 (h .width) read ≡ take (width (layoutIn s)) numbers
       unfolding part
-      row-read = rw (wide, i .is, view-pos numbers)
+      row-read = rw (width-shown r, i .is, view-pos numbers)
 
       pub place-listed : {v : Verdict Lookup} → (k ≡ 0 → ⊥) → (k ≡ 1 → ⊥) →
           v ≡ given (placeFrom 0 (rowAt 0 (h .width) read) (rowsAt (h .rows .first) (h .width) (h .rows .count) s)) → v ≡ given (lookup (layoutIn s) (naturals index))
@@ -183,7 +175,7 @@ module _ {h : Head} {s index read : List ℤ} (r : SoundRecord h s) (i : IndexRe
   unfolding part
   read-row =
       let b = lies r in
-      let rank : length (layoutIn s .shape) ≡ h .rank = rw (layout-shown r) (length-part 3 (h .rank) (view s) (rw view-length (omega arith))) in
+      let rank = rank-shown r in
       record {
         room = omega (arith, read-axes);
         low = rw (i .is, view-pos numbers) (low-front (h .width) numbers (λ k l. omega (arith, rw (i .is, view-pos) at (components-small read components k))));
@@ -191,11 +183,8 @@ module _ {h : Head} {s index read : List ℤ} (r : SoundRecord h s) (i : IndexRe
 
 -- the rows that it is looked for among
 module _ {h : Head} {s : List ℤ} (r : SoundRecord h s) where
-  pub rows-there : HasRows (h .rows .first) (h .width) (h .rows .count) s
-  rows-there = has-rows-there (r .readable)
-
   pub rows-rise : ordered s ≡ true → Increasing (rowsAt (h .rows .first) (h .width) (h .rows .count) s)
   unfolding ordered
   rows-rise e = increasing-true _ (rw (layout-shown r) at (both-true (sound s) (increasing (layoutIn s .rows)) e .1))
 
-pub ruleset places = (rows-lie, read-good-index, place-outside, place-raveled, place-alike, place-listed, read-row, rows-there, rows-rise)
+pub ruleset places = (rows-lie, read-good-index, place-outside, place-raveled, place-alike, place-listed, read-row, sound-rows, rows-rise)

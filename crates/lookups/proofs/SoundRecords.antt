@@ -1,5 +1,5 @@
 -- The shape of a sound record, as the slice that begins at the count of its extents. Assumes nothing.
-use mathlib.Core.Path.{_≡_, refl, sym, ap, _∙_}
+use mathlib.Core.Path.{_≡_, ap, _∙_}
 use mathlib.Core.Bool.{true}
 use mathlib.Core.List.{List}
 use Prim.Native.Nat.{_+_, _-_, _*_, _<_, _≤_}
@@ -13,15 +13,15 @@ use lib.Signed.{nonNeg}
 use Rattle.rules.specs.declared.Head.{Head}
 use Rattle.rules.specs.Lists.{all}
 use Rattle.rules.specs.Buffers.{part}
-use Rattle.rules.specs.Layout.{Layout, withinProduct}
+use Rattle.rules.specs.Layout.{withinProduct}
 use Rattle.rules.specs.Record.{natural, entriesFrom, sectionAt, layoutBy, layoutIn, shapeIn, goodShape}
 use Rattle.rules.proofs.RowsRead.{all-part}
-use Rattle.tables.specs.Rows.{rowAt}
 use Rattle.axes.specs.Extents.{Extents}
 use Rattle.records.specs.Sound.{SoundRecord}
 use Rattle.records.proofs.Sections.{other-default}
-use Rattle.records.proofs.SoundRecords.{lies, numbers-natural, layout-shown, layout-sound}
+use Rattle.records.proofs.SoundRecords.{lies, numbers-natural, layout-sound}
 use Rattle.records.proofs.EndToEnd.{to-end}
+use Rattle.records.proofs.Shown.{record-shape}
 use Rattle.shapes.specs.Judged.{Judged}
 
 module _ {h : Head} {s : List ℤ} (r : SoundRecord h s) where
@@ -69,11 +69,8 @@ module _ {h : Head} {s : List ℤ} (r : SoundRecord h s) where
   lent-inside = let b = lies r in omega arith
 
   -- its extents as they stand in the record
-  pub record-shape : rowAt 3 (h .rank) s ≡ layoutIn s .shape
-  record-shape = sym (ap (λ (l : Layout). l .shape) (layout-shown r))
-
   pub record-extents : Extents 3 (h .rank) s
   unfolding withinProduct
-  record-extents = let b = lies r in record { room = omega arith; within = rw record-shape (le-leb _ _ (layout-sound r .sizes .product-most)) }
+  record-extents = let b = lies r in record { room = omega arith; within = rw (record-shape r) (le-leb _ _ (layout-sound r .sizes .product-most)) }
 
 pub ruleset lent = (lent-judged, lent-inside, record-extents)

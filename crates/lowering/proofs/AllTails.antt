@@ -13,12 +13,12 @@ use lib.Seq.{take-suc, take-all}
 use Rattle.rules.specs.Lists.{gather, product}
 use Rattle.cells.specs.View.{view}
 use Rattle.tables.specs.Rows.{rowAt}
-use Rattle.tables.specs.Tables.{tableAt, roomEnd}
+use Rattle.tables.specs.Tables.{tableAt, roomEnd, Taken}
 use Rattle.tables.proofs.Rows.{row-ends, row-of, has-row}
 use Rattle.tables.proofs.Only.{row-outside, has-row-outside}
 use Rattle.tables.proofs.Tables.{table-rows, table-length, fits-rows}
-use Rattle.lowering.specs.Lowering.{lastAxes, lastPositions, withTails, allTails, Taken, RowAsked, RowsAsked}
-use Rattle.lowering.proofs.Taking.{taken-none, taken-then, taken-stop}
+use Rattle.tables.proofs.Taking.{taken-none, taken-then, taken-stop}
+use Rattle.lowering.specs.Lowering.{lastAxes, lastPositions, withTails, allTails, RowAsked, RowsAsked}
 
 -- ---- rows with ends in them
 

@@ -1,50 +1,26 @@
 -- `list_diagonal`: the rows (i,..,i) for the first numbers are in the table. Assumes nothing.
 use mathlib.Core.Path.{_≡_, refl, sym, ap, _∙_}
 use mathlib.Core.Bool.{Bool, true, false}
-use mathlib.Core.List.{List, [], _∷_}
-use Prim.Native.Nat.{ℕ, zero, suc, _+_, _^_, _<_, _≤_}
+use mathlib.Core.List.{List, []}
+use Prim.Native.Nat.{ℕ, _+_, _<_, _≤_}
 use native.Mathlib.Nat.{zero-add}
 use native.Mathlib.Omega.{arith}
 use lib.IntN.{ℤ, pos}
 use lib.ListN.{length, getD, take, replicate, length-map}
 use Rattle.rules.specs.Lists.{below}
-use Rattle.rules.specs.Buffers.{part}
 use Rattle.rules.proofs.Ranges.{from-length, from-at, map-at}
-use Rattle.cells.specs.View.{view, Low}
-use Rattle.cells.proofs.Signed.{held, back}
+use Rattle.rules.proofs.Replaced.{replicate-low}
+use Rattle.cells.specs.View.{Low}
 use Rattle.tables.specs.Rows.{rowAt, HasRow}
-use Rattle.tables.specs.Tables.{Ready, Put}
-use Rattle.lowering.specs.Lowering.{Taken, DiagonalAsked, diagonalOf}
-use Rattle.lowering.proofs.Taking.{taken-none, taken-all, taken-next, taken-over}
+use Rattle.tables.specs.Tables.{Ready, Put, Taken}
+use Rattle.tables.proofs.Taking.{taken-none, taken-all, taken-next, taken-over}
+use Rattle.tables.proofs.Rows.{five, five-row}
+use Rattle.lowering.specs.Lowering.{DiagonalAsked, diagonalOf}
 
 pub record Diagonal (to w extent i : ℕ) (s t : List ℤ) : Type 0 where
   pub asked : DiagonalAsked to w extent s
   pub upto : i ≤ extent
   pub taken : Taken to w (take i (diagonalOf w extent)) s t true
-
--- a number as an array holds it
-pub held-is : {z : ℤ} (i : ℕ) → i < 2 ^ 31 → z ≡ pos i → held z ≡ pos i
-held-is i h e = rw e (back (pos i) h)
-
--- one number, over and over, is low if it is
-replicate-low : (w i : ℕ) → i < 2 ^ 31 → Low (replicate w i)
-replicate-low zero i h k = omega arith
-replicate-low (suc w) i h zero = h
-replicate-low (suc w) i h (suc k) = replicate-low w i h k
-
--- a row of five equal numbers
-abbrev pub five : ℤ → List ℤ
-five z = z ∷ z ∷ z ∷ z ∷ z ∷ []
-
--- the first of them
-five-row : (w i : ℕ) → w ≤ 4 → rowAt 0 w (five (pos i)) ≡ replicate w i
-unfolding part view
-five-row zero i h = refl
-five-row (suc zero) i h = refl
-five-row (suc (suc zero)) i h = refl
-five-row (suc (suc (suc zero))) i h = refl
-five-row (suc (suc (suc (suc zero)))) i h = refl
-five-row (suc (suc (suc (suc (suc w))))) i h = absurd (omega arith)
 
 module _ {to w extent : ℕ} {s : List ℤ} where
   pub start : DiagonalAsked to w extent s → Diagonal to w extent 0 s s

@@ -1,6 +1,5 @@
 -- The laws that the proofs of lowering share.
 pub mod LastAxes
-pub mod Taking
 pub mod RowTails
 pub mod AllTails
 pub mod Diagonals

@@ -23,36 +23,15 @@ use Rattle.rules.proofs.Holding.{diagonal-rank}
 use Rattle.rules.proofs.Lowering.{expands-dense, diagonal-made, same-made, full-made, none-made}
 use Rattle.cells.specs.View.{view}
 use Rattle.tables.specs.Rows.{rowAt}
-use Rattle.tables.specs.Tables.{tableAt, roomEnd, Only, Ready, SortAsked, Sorted}
+use Rattle.tables.specs.Tables.{tableAt, roomEnd, Only, SortAsked, Sorted, Taken, Listed}
 use Rattle.tables.proofs.Rows.{row-number}
-use Rattle.tables.proofs.Only.{only-then, only-set, only-wider, row-outside, table-outside, fits-outside}
+use Rattle.tables.proofs.Only.{row-outside, table-outside, fits-outside}
 use Rattle.tables.proofs.Tables.{table-length}
-use Rattle.tables.proofs.Made.{emptied, emptied-ready, sorted-ready}
+use Rattle.tables.proofs.Made.{sorted-ready}
+use Rattle.tables.proofs.Taking.{taken-none, cleared-only, cleared-ready, cleared-listed}
 use Rattle.parts.specs.Parts.{kindAt, denseAt, rankAt, widthAt, layoutAt, Holds}
 use Rattle.parts.proofs.Holds.{rank-most, rank-is, shape-length, rows-few, rows-fit, rank-outside, holds-outside}
-use Rattle.lowering.specs.Lowering.{Axes, lastPositions, allTails, RowsAsked, Taken, DiagonalAsked, diagonalOf, LowerAsked, Listed}
-use Rattle.lowering.proofs.Taking.{taken-none}
-
--- ---- a table that was emptied
-
-module _ {to : ℕ} (s : List ℤ) {t : List ℤ} (e : t ≡ set s to (pos 0)) where
-  pub cleared-only : (f : ℕ) → to + 1 ≤ f → Only to f s t
-  cleared-only f h = rw e (only-wider (only-set to (pos 0) s) to f (omega arith) h)
-
-  module _ {w : ℕ} (room : roomEnd to w ≤ length s) where
-    pub cleared-ready : Ready to w t
-    cleared-ready = rw e (emptied-ready to w s room)
-
-    -- what it takes is what is listed
-    pub cleared-listed : {rows : List (List ℕ)} {u : List ℤ} {r : Bool} → Taken to w rows t u r → Listed to w rows s u r
-    cleared-listed p =
-        let empty : tableAt to w t ≡ [] = rw e (emptied to w s room) in
-        record {
-          verdict = rw empty at (p .verdict);
-          table = λ h. rw empty at (p .table h);
-          ready = p .ready;
-          only = only-then (cleared-only (roomEnd to w) (omega arith)) (p .only);
-        }
+use Rattle.lowering.specs.Lowering.{Axes, lastPositions, allTails, RowsAsked, DiagonalAsked, diagonalOf, LowerAsked}
 
 -- the axes of a layout
 pub layout-axes : {at rank w : ℕ} {s : List ℤ} → Holds at s → rank ≡ rankAt at s → w ≤ rank → Axes (at + 3) w rank s

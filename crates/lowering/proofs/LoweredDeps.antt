@@ -3,12 +3,12 @@ use mathlib.Core.Path.{_≡_, refl, sym, ap, _∙_}
 use mathlib.Core.Bool.{Bool, true, false, not}
 use mathlib.Core.List.{List, [], _∷_, _++_, map, append-assoc}
 use mathlib.Core.Logic.{inl, inr, ⊎-elim}
-use Prim.Native.Nat.{ℕ, _+_, _*_, _-_, _<_, _≤_}
+use Prim.Native.Nat.{ℕ, _+_, _-_, _<_, _≤_}
 use native.Mathlib.Omega.{arith}
 use borrow.Author.Tests.{ne-eqb, ltb-true, le-leb}
 use lib.Dec.{ltb}
 use lib.IntN.{ℤ, pos}
-use lib.ListN.{length, getD, set, take, drop}
+use lib.ListN.{length, set, take, drop}
 use lib.Seq.{take-take}
 use Rattle.rules.specs.Lists.{gather}
 use Rattle.rules.specs.RowsInOrder.{sorted, sortedFew, Each}
@@ -18,20 +18,18 @@ use Rattle.rules.specs.Removal.{positions, removedDeps, removeDenseAxes}
 use Rattle.rules.specs.Pairs.{expanded, lowered}
 use Rattle.rules.proofs.Same.{both-true}
 use Rattle.rules.proofs.Sets.{each-head, each-tail}
-use Rattle.rules.proofs.Places.{in-stands}
 use Rattle.rules.proofs.Sorting.{sorted-id}
 use Rattle.rules.proofs.Few.{few-sorted, sorted-few, few-increasing}
-use Rattle.cells.specs.View.{view}
 use Rattle.tables.specs.Rows.{rowAt}
-use Rattle.tables.specs.Tables.{tableAt, roomEnd, Only, Fits, SortAsked, Sorted}
-use Rattle.tables.proofs.Rows.{row-ends, length-rows, row-of, row-length}
+use Rattle.tables.specs.Tables.{tableAt, roomEnd, Only, SortAsked, Sorted, Taken, Listed}
 use Rattle.tables.proofs.Only.{row-outside, table-outside, fits-outside}
-use Rattle.tables.proofs.Tables.{table-rows, table-length, fits-rows}
+use Rattle.tables.proofs.Tables.{table-length, table-wide}
 use Rattle.tables.proofs.Made.{sorted-ready}
+use Rattle.tables.proofs.Taking.{cleared-only, cleared-ready, cleared-listed}
 use Rattle.parts.specs.Parts.{kindAt, denseAt, rankAt, layoutAt, Holds}
 use Rattle.parts.proofs.Holds.{rank-most, shape-length, dense-most, rank-outside, holds-outside}
-use Rattle.lowering.specs.Lowering.{lastPositions, withTails, allTails, RowsAsked, Taken, Listed, removesAxes, loweredDeps, DepsAsked}
-use Rattle.lowering.proofs.Listing.{cleared-only, cleared-ready, cleared-listed, layout-axes}
+use Rattle.lowering.specs.Lowering.{lastPositions, withTails, allTails, RowsAsked, removesAxes, loweredDeps, DepsAsked}
+use Rattle.lowering.proofs.Listing.{layout-axes}
 
 -- ---- the dependencies of a lowered layout
 
@@ -65,15 +63,6 @@ above-dense {at} {d} {s} h e n-is dense-is =
     (omega arith, omega (arith, dense-most h))
 
 -- ---- entries with ends in them
-
--- the rows of a table are as long as its width
-pub table-wide : {at w : ℕ} {s : List ℤ} → Fits at w s → Each (λ r. length r ≡ w) (tableAt at w s)
-table-wide {at} {w} {s} f r m =
-    let n : ℕ = getD (view s) at 0 in
-    let k = in-stands (rw (table-rows at w n s refl) at m) in
-    let inside : k .index < n = rw (length-rows (at + 1) w n s) at (k .within) in
-    ap length (sym (k .is) ∙ row-of (at + 1) w n s (k .index) inside)
-    ∙ row-length (at + 1 + k .index * w) w s (omega (arith, fits-rows f refl .room, row-ends w inside))
 
 module _ (w n : ℕ) (h : w ≤ n) where
   -- one dependency with an end in place of its own

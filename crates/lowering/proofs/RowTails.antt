@@ -23,12 +23,12 @@ use Rattle.rules.proofs.Low.{below-at}
 use Rattle.rules.proofs.Changed.{RowBelow, take-low, drop-low, append-low}
 use Rattle.cells.specs.View.{view, Low}
 use Rattle.tables.specs.Rows.{rowAt, HasRow}
-use Rattle.tables.specs.Tables.{Ready, Put}
+use Rattle.tables.specs.Tables.{Ready, Put, Taken}
 use Rattle.tables.proofs.Only.{row-outside}
+use Rattle.tables.proofs.Taking.{taken-none, taken-all, taken-next, taken-over}
 use Rattle.axes.specs.Extents.{IndexAsked}
-use Rattle.lowering.specs.Lowering.{Axes, lastAxes, lastPositions, withTails, Taken, RowAsked}
+use Rattle.lowering.specs.Lowering.{Axes, lastAxes, lastPositions, withTails, RowAsked}
 use Rattle.lowering.proofs.LastAxes.{ask-index, next-length, next-front, next-behind, next-row}
-use Rattle.lowering.proofs.Taking.{taken-none, taken-all, taken-next, taken-over}
 
 -- ---- numbers that are not negative
 

@@ -1,6 +1,6 @@
 -- The rows and the dependencies that a layout lists with a smaller D, put in order into a table of the slice.
 use mathlib.Core.Path.{_≡_}
-use mathlib.Core.Bool.{Bool, true, false, not, _&&_}
+use mathlib.Core.Bool.{Bool, false, not, _&&_}
 use mathlib.Core.List.{List, _++_, map}
 use mathlib.Core.Logic.{_⊎_}
 use Prim.Native.Nat.{ℕ, _+_, _-_, _≤_}
@@ -9,12 +9,11 @@ use lib.IntN.{ℤ}
 use lib.ListN.{length, take, drop, replicate}
 use Rattle.rules.specs.Limits.{productLimit}
 use Rattle.rules.specs.Lists.{if, gather, below, product}
-use Rattle.rules.specs.RowsInOrder.{sorted}
-use Rattle.rules.specs.Layout.{Layout, isDiagonal, few, nonzeroProduct}
+use Rattle.rules.specs.Layout.{Layout, isDiagonal, nonzeroProduct}
 use Rattle.rules.specs.Removal.{positions, removedDeps, listsRow}
 use Rattle.rules.specs.Pairs.{barsExpansion}
 use Rattle.tables.specs.Rows.{rowAt, HasRow}
-use Rattle.tables.specs.Tables.{tableAt, roomEnd, Only, Fits, Ready}
+use Rattle.tables.specs.Tables.{roomEnd, Fits, Ready}
 use Rattle.parts.specs.Parts.{kindAt, denseAt, rankAt, layoutAt, Holds, Apart}
 
 -- ---- the last axes of a shape
@@ -43,13 +42,6 @@ abbrev pub allTails : ℕ → ℕ → List (List ℕ) → List (List ℕ) → Li
 allTails w rank rows ends = gather (λ r. withTails w rank r ends) rows
 
 -- ---- rows that are put into a table
-
--- all of them, in order and once each, or they are too many
-pub record Taken (to w : ℕ) (rows : List (List ℕ)) (s t : List ℤ) (r : Bool) : Type 0 where
-  pub verdict : r ≡ few (sorted (tableAt to w s ++ rows))
-  pub table : r ≡ true → tableAt to w t ≡ sorted (tableAt to w s ++ rows)
-  pub ready : r ≡ true → Ready to w t
-  pub only : Only to (roomEnd to w) s t
 
 -- a row of which so many numbers are read, and a width that it has with an end in it: as far as the rank, and what is read behind that
 pub record Widths (read w rank width : ℕ) : Type 0 where
@@ -97,13 +89,6 @@ pub record LowerAsked (at to d : ℕ) (s : List ℤ) : Type 0 where
   pub not-dense : kindAt at s ≡ 0 → ⊥
   pub expands : barsExpansion (layoutAt at s) ≡ false
   pub lists-none : listsRow (layoutAt at s) d ≡ false
-
--- rows, in order and once each, are a table of width w, or they are too many
-pub record Listed (to w : ℕ) (rows : List (List ℕ)) (s t : List ℤ) (r : Bool) : Type 0 where
-  pub verdict : r ≡ few (sorted rows)
-  pub table : r ≡ true → tableAt to w t ≡ sorted rows
-  pub ready : r ≡ true → Ready to w t
-  pub only : Only to (roomEnd to w) s t
 
 -- ---- dependencies
 

@@ -4,9 +4,9 @@ ghost use Prim.Native.Nat.{_+_, _-_};
 ghost use Rattle.rules.specs.Lists.{product as productOf};
 ghost use Rattle.rules.specs.Pairs.{lowered};
 ghost use Rattle.tables.specs.Rows.{rowAt};
-ghost use Rattle.tables.specs.Tables.{tableAt};
+ghost use Rattle.tables.specs.Tables.{tableAt, Taken, Listed};
 ghost use Rattle.parts.specs.Parts.{rankAt, layoutAt, Holds};
-ghost use Rattle.lowering.specs.Lowering.{Axes, lastAxes, lastPositions, withTails, allTails, RowAsked, RowsAsked, Taken, DiagonalAsked, diagonalOf, LowerAsked, Listed, removesAxes, loweredDeps, DepsAsked};
+ghost use Rattle.lowering.specs.Lowering.{Axes, lastAxes, lastPositions, withTails, allTails, RowAsked, RowsAsked, DiagonalAsked, diagonalOf, LowerAsked, removesAxes, loweredDeps, DepsAsked};
 
 // The product of the extents from axis w on, of the shape of `rank` extents at a place.
 pub fn product(s: &[i32], at: usize, w: usize, rank: usize) -> usize

@@ -137,10 +137,7 @@ module _ {rows : Entries} {width : ℕ} {places : List ℕ} {w : ℕ} {s : List 
       rw (g .table) (omega (arith, insert-length-most (rowAt 0 w row) (sorted some), sorted-length some, sofar g, g .asked .few)) in
       took g h row e (p .only) (p .table (p .verdict ∙ le-leb (length (insert (rowAt 0 w row) (tableAt at w u))) entryLimit few) ∙ is)
 
--- sorted rows are not more
-pub sorted-most : (l : List (List ℕ)) → length (sorted l) ≤ length l
-sorted-most l = sorted-length l
-
+-- no rows, sorted, are none
 pub sorted-none : sorted [] ≡ []
 unfolding sorted
 sorted-none = refl
@@ -172,6 +169,6 @@ same-many l = omega arith
 
 pub ruleset rows-laws = (row-ended, ask-row, picked-row)
 
-pub ruleset sorted-laws = (start-filling, filled, can-take, turn-sorted, sorted-most, sorted-none)
+pub ruleset sorted-laws = (start-filling, filled, can-take, turn-sorted, sorted-length, sorted-none)
 
 pub ruleset added-laws = (start-filling, filled, can-add, turn-added, same-many)

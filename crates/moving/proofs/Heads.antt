@@ -2,23 +2,18 @@
 use mathlib.Core.Path.{_≡_, sym, ap, _∙_}
 use mathlib.Core.List.{List}
 use mathlib.Core.Logic.{inl}
-use Prim.Native.Nat.{ℕ, _+_, _<_, _≤_}
+use Prim.Native.Nat.{ℕ, _+_, _≤_}
 use native.Mathlib.Omega.{arith}
 use lib.IntN.{ℤ, pos}
-use lib.ListN.{length, getD, set}
-use lib.Seq.{getD-set-same}
+use lib.ListN.{length, set}
 use Rattle.rules.specs.Buffers.{put}
 use Rattle.rules.proofs.Buffers.{part-put-all}
 use Rattle.cells.specs.View.{view}
-use Rattle.cells.proofs.View.{view-length, view-set, view-part}
+use Rattle.cells.proofs.View.{view-length, view-part, stored-number}
 use Rattle.tables.specs.Tables.{Only}
 use Rattle.tables.proofs.Only.{only-then, only-wider, only-set, only-put, view-outside}
 use Rattle.parts.specs.Parts.{extentsFrom, rowsFrom}
 use Rattle.moving.specs.Sections.{HeadAsked, HeadMade}
-
--- a number that was stored
-stored-number : (at n : ℕ) (s : List ℤ) → at < length s → getD (view (set s at (pos n))) at 0 ≡ n
-stored-number at n s h = rw view-set (getD-set-same (view s) at n 0 (rw view-length h))
 
 module _ {kind dense : ℕ} {extents s : List ℤ} (q : HeadAsked kind dense extents s) {t u v w : List ℤ}
     (kinded : t ≡ set s 0 (pos kind)) (densed : u ≡ set t 1 (pos dense)) (ranked : v ≡ set u 2 (pos (length extents))) (copied : w ≡ put extentsFrom extents v) where

@@ -1,6 +1,5 @@
--- Laws by subject: what a record shows of its layout (Shown), sections of a part (Sections, Heads), rows whose numbers are picked (Picking),
--- rows cut short so (Shortening), tables of them (Filling, Deps).
-pub mod Shown
+-- Laws by subject: sections of a part (Sections, Heads), rows whose numbers are picked (Picking), rows cut short so (Shortening), tables of
+-- them (Filling, Deps).
 pub mod Sections
 pub mod Heads
 pub mod Picking

@@ -1,15 +1,14 @@
 -- Sections of a part stay while others are written, and together they are its layout. Assumes nothing.
-use mathlib.Core.Path.{_≡_, sym, _∙_}
+use mathlib.Core.Path.{_≡_, _∙_}
 use mathlib.Core.List.{List}
 use mathlib.Core.Logic.{_⊎_, inl}
 use Prim.Native.Nat.{ℕ, _+_, _≤_}
 use native.Mathlib.Omega.{arith}
 use lib.IntN.{ℤ}
 use lib.ListN.{length, getD}
-use Rattle.rules.specs.declared.Refusal.{Refusal}
-use Rattle.rules.specs.declared.Step.the-variants.{Done, Refused}
+use Rattle.rules.specs.declared.Step.the-variants.{Done}
 use Rattle.rules.specs.Limits.{rankLimit, entryLimit}
-use Rattle.rules.specs.Refusals.{Verdict, given, refused, numberOf}
+use Rattle.rules.specs.Refusals.{Verdict, given}
 use Rattle.rules.specs.Layout.{Layout, rank, width}
 use Rattle.rules.specs.Soundness.{Sound, DepsLow}
 use Rattle.cells.specs.View.{view}
@@ -49,7 +48,3 @@ assembled h rows states inputs = rw (h .kind-is, h .dense-is, h .rank-is, h .sha
 -- a step that made the layout that a rule gives says so
 pub says-made : {v : Verdict Layout} {l : Layout} {t : List ℤ} → v ≡ given l → layoutAt 0 t ≡ l → Sound l → DepsLow l → partSize ≤ length t → Says v 0 t Done
 says-made e f s low h = record { is = rw (e, f); holds = λ _. record { inside = h; sound = rw f s; low = rw f low } }
-
--- and so does one that is refused as the rule is
-pub says-refused : {v : Verdict Layout} {t : List ℤ} (why : Refusal) → v ≡ refused (numberOf why) → Says v 0 t (Refused why)
-says-refused why e = record { is = sym e; holds = λ z. absurd (let y : _≡_ {A = ℕ} 0 1 = cc z in omega arith) }

@@ -1,9 +1,8 @@
--- `both_ordered` and `intersect`: reason 4, two ordered records in a window, and that a refusal is one with 3 or more. Assumes nothing.
+-- `both_ordered` and `intersect`: reason 4, and two ordered records in a window. Assumes nothing.
 use mathlib.Core.Path.{_≡_, _∙_}
 use mathlib.Core.Bool.{Bool, true, false, not, _&&_}
 use mathlib.Core.List.{List, [], _∷_}
 use Prim.Native.Nat.{_≤_}
-use native.Mathlib.Omega.{arith}
 use lib.IntN.{ℤ}
 use lib.ListN.{length}
 use Rattle.rules.specs.declared.Head.{Head}
@@ -11,22 +10,15 @@ use Rattle.rules.specs.declared.Refusal.the-variants.{Unordered}
 use Rattle.rules.specs.Limits.{workSize}
 use Rattle.rules.specs.RowsInOrder.{increasing}
 use Rattle.rules.specs.Refusals.{given, refused, numberOf, Reason, _when_, lowest}
-use Rattle.rules.specs.Layout.{Layout}
 use Rattle.rules.specs.Record.{layoutIn, sound, ordered}
-use Rattle.rules.specs.Intersect.{intersect}
 use Rattle.rules.proofs.Same.{both-true}
-use Rattle.rules.proofs.RefusedWith.{intersect-refusing}
 use Rattle.records.specs.Sound.{SoundRecord}
 use Rattle.parts.specs.Parts.{windowSize}
 use Rattle.parts.specs.Answers.{PairLoaded}
-use Rattle.parts.proofs.Ending.{AboveTwo, Late}
 use Rattle.parts.proofs.Lent.{lentOf, backIn}
 use Rattle.parts.proofs.Windows.{window-again}
 use Rattle.judging.proofs.SoundRecords.{pair-passed}
 use Rattle.intersecting.specs.Intersecting.{OrderedWindow}
-
-pub late-intersect : (a b : Layout) → Late (intersect a b)
-late-intersect = intersect-refusing AboveTwo (omega arith) (omega arith) (omega arith) (omega arith)
 
 -- ---- in order
 

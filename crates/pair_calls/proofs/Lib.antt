@@ -1,5 +1,4 @@
 -- Laws that the proofs of this crate's functions cite.
 pub mod InWindow
-pub mod Unions
 pub mod Intersections
 pub mod Filters

@@ -8,15 +8,9 @@ use Rattle.rules.specs.Layout.{Layout}
 use Rattle.rules.specs.Record.{layoutIn, sound, ordered}
 use Rattle.rules.specs.Union.{union}
 use Rattle.rules.specs.Intersect.{intersect}
-use Rattle.rules.proofs.RefusedWith.{union-refusing, intersect-refusing}
-use Rattle.parts.proofs.Ending.{AboveTwo, Late}
+use Rattle.parts.proofs.Ending.{Late}
+use Rattle.judging.proofs.PairCalls.{late-union, late-intersect}
 use Rattle.pile.specs.Exchanging.{Both, bothOf}
-
-late-union : (a b : Layout) → Late (union a b)
-late-union = union-refusing AboveTwo (omega arith) (omega arith) (omega arith) (omega arith)
-
-late-intersect : (a b : Layout) → Late (intersect a b)
-late-intersect = intersect-refusing AboveTwo (omega arith) (omega arith) (omega arith) (omega arith)
 
 -- one step after the other
 late-steps : (sound ordered : Bool) (u i : Verdict Layout) → Late u → Late i →

@@ -30,6 +30,7 @@ use Rattle.parts.specs.Answers.{PairLoaded, Says}
 use Rattle.parts.proofs.Holds.{layout-outside, holds-outside}
 use Rattle.parts.proofs.Lent.{lentOf, backIn, back-layout, back-holds}
 use Rattle.parts.proofs.Windows.{window-only}
+use Rattle.parts.proofs.Saying.{never-done}
 use Rattle.combine.specs.Window.{Combined}
 use Rattle.pile.specs.Exchanging.{sixth, United, bothOf, bothSaid, BothMade}
 use Rattle.pile.proofs.Uniting.{window-lent, left-lent, right-lent, came-says, came-only}
@@ -65,8 +66,8 @@ module _ (s t : List ℤ) where
 refused-made : {s t work now : List ℤ} {why : Refusal} → bothOf s t ≡ refused (numberOf why) → Only 0 workSize work now → BothMade s t work now (Refused why)
 refused-made e o = record {
   says = sym e;
-  united-holds = λ f. (let z : _≡_ {A = ℕ} 0 1 = cc in absurd (omega arith));
-  common-holds = λ f. (let z : _≡_ {A = ℕ} 0 1 = cc in absurd (omega arith));
+  united-holds = λ f. absurd (never-done f);
+  common-holds = λ f. absurd (never-done f);
   only = o;
 }
 

@@ -22,6 +22,7 @@ use Rattle.parts.specs.Answers.{Says}
 use Rattle.parts.proofs.Holds.{Moved, layout-moved, holds-moved, layout-outside, holds-outside}
 use Rattle.parts.proofs.Lent.{lentOf, backIn, lent-length, lent-layout, lent-holds, back-layout, back-holds}
 use Rattle.parts.proofs.Windows.{window-only, window-says}
+use Rattle.parts.proofs.Saying.{says-refused, refused-said}
 use Rattle.combine.specs.Window.{Combined}
 use Rattle.pile.specs.Exchanging.{sixth, United}
 
@@ -100,10 +101,6 @@ module _ (s : List ℤ) {t : List ℤ} (long : workSize ≤ length s) (is : t �
     holds = λ _. holds-moved aside-same (d .holds e) (omega (arith, aside-only .size));
   }
 
--- a refusal says nothing of a layout
-refused-elsewhere : {v : Verdict Layout} {a b : ℕ} {s t : List ℤ} {step : Step} {why : Refusal} → step ≡ Refused why → Says v a s step → Says v b t (Refused why)
-refused-elsewhere e d = record { is = rw e at (d .is); holds = λ f. (let z : _≡_ {A = ℕ} 0 1 = cc in absurd (omega arith)) }
-
 -- ---- `unite`
 
 module _ (work : List ℤ) (long : workSize ≤ length work) (w : Window work) {u : List ℤ} {step : Step} (m : Combined union (lentOf 0 windowSize work) u step) where
@@ -135,7 +132,7 @@ module _ (work : List ℤ) (long : workSize ≤ length work) (w : Window work) {
   -- it was refused
   pub united-refused : {why : Refusal} → step ≡ Refused why → United work came (Refused why)
   united-refused {why} e = record {
-    says = refused-elsewhere e (came-says work long w m);
+    says = says-refused why sixth came (refused-said (came-says work long w m) e);
     window = kept-window work long w m;
     left-stays = kept-layout work long w m left (omega arith) (w .first);
     right-stays = kept-layout work long w m right (omega arith) (w .second);

@@ -19,7 +19,7 @@ use Rattle.tables.proofs.Rows.{row-length}
 use Rattle.axes.proofs.Products.{extent-read}
 use Rattle.records.specs.Sound.{SoundRecord}
 use Rattle.records.proofs.SoundRecords.{layout-shown}
-use Rattle.moving.proofs.Shown.{rank-shown, kind-shown}
+use Rattle.records.proofs.Shown.{rank-shown, kind-shown}
 use Rattle.range.specs.Cutting.{wideOf, WideIs, uncuttable, CutAlong}
 
 -- ---- the axes over 1

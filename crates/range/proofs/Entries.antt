@@ -10,11 +10,12 @@ use lib.IntN.{ℤ, pos}
 use lib.ListN.{length, getD, set, take, drop}
 use lib.Seq.{take-take, take-set-lt, set-append-left, length-take-le, getD-take}
 use Rattle.rules.specs.Buffers.{part}
-use Rattle.rules.specs.Lists.{if, with, allBelow}
+use Rattle.rules.specs.Lists.{allBelow}
 use Rattle.rules.specs.Dependencies.{indexOf, onIndex}
 use Rattle.rules.specs.FilterDepsFrom.{lessStart}
-use Rattle.rules.proofs.Changed.{RowBelow, take-low, changed-low}
-use Rattle.rules.proofs.Replaced.{with-set, with-low}
+use Rattle.rules.proofs.Changed.{take-low, changed-low}
+use Rattle.rules.proofs.Replaced.{with-set}
+use Rattle.rules.proofs.Ranging.{less-start-low}
 use Rattle.cells.specs.View.{view, Low}
 use Rattle.cells.proofs.View.{view-set}
 use Rattle.tables.specs.Rows.{rowAt}
@@ -89,19 +90,11 @@ module _ (axis start : ℕ) (index : List ℕ) where
   is-less : axis < length index → set index axis (getD index axis 0 - start) ≡ lessStart axis start index
   is-less h = rw (lt-ltb axis (length index) h) (sym (with-set (getD index axis 0 - start) index h))
 
-  -- its numbers are not larger
-  less-low : {b : ℕ} → RowBelow b index → RowBelow b (lessStart axis start index)
-  less-low {b} f = go (ltb axis (length index))
-    where
-      go : (t : Bool) → RowBelow b (if t (with axis (getD index axis 0 - start) index) index)
-      go true = with-low axis (getD index axis 0 - start) index (omega (arith, f axis)) f
-      go false = f
-
 -- what is left has no negative number
 pub cut-low : (cut : Cut) (d : List ℕ) → Low d → Low (cutDep cut d)
 cut-low cut d low =
     changed-low (λ index. lessStart (cut .axis) (cut .start) (take (cut .rank) index)) d low
-    (λ i f. less-low (cut .axis) (cut .start) (take (cut .rank) i) (take-low (cut .rank) i f))
+    (λ i f. less-start-low (cut .axis) (cut .start) (take (cut .rank) i) (take-low (cut .rank) i f))
 
 module _ {at r : ℕ} {cut : Cut} {s : List ℤ} (q : RowAsked at r cut s) where
   abbrev whole : List ℕ

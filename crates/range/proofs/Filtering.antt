@@ -27,9 +27,10 @@ use Rattle.parts.specs.Parts.{partSize, rowsFrom, statesFrom, inputsFrom, layou
 use Rattle.parts.specs.Answers.{Loaded, Says}
 use Rattle.parts.proofs.Holds.{shape-length, rows-few}
 use Rattle.tables.proofs.Tables.{table-length}
+use Rattle.records.proofs.Shown.{rank-shown, deps-low}
+use Rattle.parts.proofs.Saying.{says-refused}
 use Rattle.moving.specs.Sections.{HeadIs, TableIs}
-use Rattle.moving.proofs.Shown.{rank-shown, deps-low}
-use Rattle.moving.proofs.Sections.{head-stays, table-stays, assembled, says-made, says-refused}
+use Rattle.moving.proofs.Sections.{head-stays, table-stays, assembled, says-made}
 use Rattle.range.specs.declared.Axis.{Axis}
 use Rattle.range.specs.declared.Axis.the-variants.{Along, Nowhere}
 use Rattle.range.specs.declared.Cut.{Cut}
@@ -56,7 +57,7 @@ module _ {x y : Head} {p q : List ℤ} (target : SoundRecord x p) (source : Soun
   -- the source cannot be cut
   pub cannot-says : {a : Axis} {t : List ℤ} → AxisIs (x .rank) (layoutIn q) a → a ≡ Nowhere → Says (filterDepsFrom (layoutIn p) (layoutIn q) start end) 0 t (Refused Unjoinable)
   unfolding numberOf
-  cannot-says f e = says-refused Unjoinable (filter-bars (layoutIn p) (layoutIn q) start end (rw (rank-shown target) (rw e at f)))
+  cannot-says f e = says-refused Unjoinable 0 _ (filter-bars (layoutIn p) (layoutIn q) start end (rw (rank-shown target) (rw e at f)))
 
   -- it can
   module _ {axis : ℕ} (a : CutAlong (x .rank) (layoutIn q) axis) where
@@ -111,7 +112,7 @@ module _ {x y : Head} {p q : List ℤ} (target : SoundRecord x p) (source : Soun
     -- they meet or fall out of order
     broken : {t : List ℤ} → increasing states && increasing inputs ≡ false → Says (filterDepsFrom (layoutIn p) (layoutIn q) start end) 0 t (Refused MadeUnsound)
     unfolding numberOf
-    broken e = says-refused MadeUnsound (filter-breaks (layoutIn p) (layoutIn q) start end can e)
+    broken e = says-refused MadeUnsound 0 _ (filter-breaks (layoutIn p) (layoutIn q) start end can e)
 
     module _ {t u : List ℤ} {b : Bool} (loaded : Loaded p t) (first : DepsCut (y .rank) (y .states) cut q statesFrom t u b) where
       states-told : increasing states ≡ b

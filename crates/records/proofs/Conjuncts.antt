@@ -1,10 +1,10 @@
 -- The tests of soundness, each as it is put to the slice of a readable record. Assumes nothing.
-use mathlib.Core.Path.{_≡_, refl, sym, ap, _∙_}
-use mathlib.Core.Bool.{Bool, true, false, _&&_}
+use mathlib.Core.Path.{_≡_, refl, sym, _∙_}
+use mathlib.Core.Bool.{Bool, true, _&&_}
 use mathlib.Core.List.{List, [], _∷_}
-use Prim.Native.Nat.{ℕ, zero, suc, _+_, _*_, _<_, _≤_}
+use Prim.Native.Nat.{ℕ, zero, suc, _+_, _*_, _≤_}
 use native.Mathlib.Omega.{arith}
-use borrow.Author.Tests.{le-leb, eq-eqb, ne-eqb, eqb-true, eqb-false}
+use borrow.Author.Tests.{le-leb, eq-eqb}
 use lib.Dec.{eqb, leb}
 use lib.IntN.{ℤ}
 use lib.ListN.{length, getD, take}
@@ -15,14 +15,14 @@ use Rattle.rules.specs.Buffers.{part}
 use Rattle.rules.specs.RowsInOrder.{increasing, Each}
 use Rattle.rules.specs.Layout.{rank, width, few, alike, rowFits, diagonalFits, depsFit, depsSmall}
 use Rattle.rules.proofs.Sets.{each-head, each-tail}
-use Rattle.rules.proofs.Places.{in-stands}
 use Rattle.rules.proofs.Buffers.{length-part}
+use Rattle.rules.proofs.Same.{one-test}
+use Rattle.rules.proofs.Tests.{none-counted, each-all}
 use Rattle.cells.specs.View.{view}
 use Rattle.cells.proofs.View.{view-length}
 use Rattle.tables.specs.Rows.{rowsAt}
-use Rattle.tables.proofs.Rows.{row-length, length-rows, row-of}
+use Rattle.tables.proofs.Rows.{length-rows, rows-wide}
 use Rattle.records.specs.Judging.{Readable, below, rowsBelow, small, smallDep, smallDeps}
-use Rattle.tables.proofs.Passing.{row-room}
 use Rattle.records.proofs.Layouts.{seen, Bounds, bounds, axes}
 
 -- ---- tests of all rows
@@ -33,25 +33,6 @@ unfolding all
 all-agree f g [] e = refl
 all-agree f g (r ∷ t) e = rw (each-head e, all-agree f g t (each-tail e))
 
--- a test that every row passes
-all-hold : (f : List ℕ → Bool) (t : List (List ℕ)) → Each (λ r. f r ≡ true) t → all f t ≡ true
-unfolding all
-all-hold f [] e = refl
-all-hold f (r ∷ t) e = rw (each-head e, all-hold f t (each-tail e))
-
--- rows that lie in the slice have w numbers each
-rows-wide : (a w n : ℕ) (s : List ℤ) → a + n * w ≤ length s → Each (λ r. length r ≡ w) (rowsAt a w n s)
-rows-wide a w n s h r m =
-    let at = in-stands m in
-    let inside : at .index < n = rw (length-rows a w n s) at (at .within) in
-    ap length (sym (at .is) ∙ row-of a w n s (at .index) inside) ∙ row-length (a + at .index * w) w s (row-room a w inside h)
-
--- no rows are counted as none
-none-counted : (t : List (List ℕ)) → none t ≡ eqb (length t) 0
-unfolding none
-none-counted [] = refl
-none-counted (r ∷ t) = sym (ne-eqb (suc (length t)) 0 (λ e. omega arith))
-
 -- further extents do not matter to a row
 below-front : (w : ℕ) (r es : List ℕ) → length r ≤ w → allBelow r es ≡ allBelow r (take w es)
 unfolding allBelow
@@ -59,14 +40,6 @@ below-front w [] es h = refl
 below-front zero (c ∷ r) es h = absurd (omega arith)
 below-front (suc w) (c ∷ r) [] h = refl
 below-front (suc w) (c ∷ r) (e ∷ es) h = rw (← below-front w r es (omega arith))
-
--- two tests of numbers that say the same
-one-test : (a b c d : ℕ) → (a ≡ b → c ≡ d) → (c ≡ d → a ≡ b) → eqb a b ≡ eqb c d
-one-test a b c d f g = by (eqb a b) refl
-  where
-    by : (t : Bool) → eqb a b ≡ t → eqb a b ≡ eqb c d
-    by true e = e ∙ sym (eq-eqb c d (f (eqb-true a b e)))
-    by false e = e ∙ sym (ne-eqb c d (λ (u : c ≡ d). eqb-false a b e (g u)))
 
 -- ---- the tests, put to the slice
 
@@ -124,7 +97,7 @@ module _ {h : Head} {s : List ℤ} (p : Readable h s) where
   module _ (a n : ℕ) (i : a + n * (h .rank + 1) ≤ length s) where
     -- dependencies have R + 1 numbers each, so that only their order counts
     pub deps-seen : depsFit (seen h s) (rowsAt a (h .rank + 1) n s) ≡ increasing (rowsAt a (h .rank + 1) n s)
-    deps-seen = rw (all-hold (λ d. eqb (length d) (suc (rank (seen h s)))) (rowsAt a (h .rank + 1) n s) wide)
+    deps-seen = rw (each-all (λ d. eqb (length d) (suc (rank (seen h s)))) (rowsAt a (h .rank + 1) n s) wide)
       where
         wide : Each (λ d. eqb (length d) (suc (rank (seen h s))) ≡ true) (rowsAt a (h .rank + 1) n s)
         wide r m =

@@ -6,7 +6,7 @@
 --     RowTests, KindTests                    tests of rows, and of kinds
 --     Naturals                               numbers that are natural and small
 --     Layouts, Conjuncts, Soundness          a readable record, its layout, and its soundness
---     SoundRecords                           a record that was judged
+--     SoundRecords, Shown                    a record that was judged, and what it shows of its layout
 --     Answers                                what is answered about any record
 --     EndToEnd                               things end to end, walked from one to the next
 --     Determined                             two parts that the contract of `row` allows are one
@@ -24,6 +24,7 @@ pub mod Layouts
 pub mod Conjuncts
 pub mod Soundness
 pub mod SoundRecords
+pub mod Shown
 pub mod Answers
 pub mod EndToEnd
 pub mod Determined

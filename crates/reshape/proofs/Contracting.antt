@@ -33,12 +33,13 @@ use Rattle.tables.proofs.Tables.{table-length}
 use Rattle.axes.specs.Extents.{Extents}
 use Rattle.records.specs.Sound.{SoundRecord}
 use Rattle.records.proofs.SoundRecords.{lies, layout-sound, layout-shown}
+use Rattle.records.proofs.Shown.{shape-size, rank-shown, dense-shown, kind-shown, deps-low}
 use Rattle.parts.specs.Parts.{partSize, rowsFrom, statesFrom, layoutAt}
 use Rattle.parts.specs.Answers.{Says}
+use Rattle.parts.proofs.Saying.{says-refused}
 use Rattle.moving.specs.Sections.{HeadAsked, HeadMade, TableMade}
 use Rattle.moving.specs.Picking.{picked, shorterPlaces, DepsPicked}
-use Rattle.moving.proofs.Shown.{shape-size, rank-shown, dense-shown, kind-shown, deps-low}
-use Rattle.moving.proofs.Sections.{head-stays, table-stays, assembled, says-made, says-refused}
+use Rattle.moving.proofs.Sections.{head-stays, table-stays, assembled, says-made}
 use Rattle.reshape.specs.Contracting.{FrontMade, SumAsked, NoDenseAxis}
 use Rattle.reshape.proofs.Shortening.{rows-shortened, deps-shortened}
 use Rattle.reshape.proofs.Fronts.{head-same, front-made, bare-front}
@@ -245,7 +246,7 @@ few-axes r d = (omega arith, lies r .rank-few)
 -- one that has none
 pub scalar-says : {h : Head} {s t : List ℤ} → SoundRecord h s → h .rank ≡ 0 → Says (contractLastAxis (layoutIn s)) 0 t (Refused ScalarContracted)
 unfolding numberOf
-scalar-says r e = says-refused ScalarContracted (contract-scalar _ (rank-shown r ∙ e))
+scalar-says r e = says-refused ScalarContracted 0 _ (contract-scalar _ (rank-shown r ∙ e))
 
 module _ {h : Head} {s t u v : List ℤ} (q : SumAsked h s t) (f : FrontMade (contracted (layoutIn s)) t u) {places : List ℕ} (e : places ≡ shorterPlaces (h .rank - 1) (h .rank))
     (d : DepsPicked (take (h .rank) places) (h .rank) (layoutIn s) u v) where

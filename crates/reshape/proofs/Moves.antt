@@ -1,6 +1,6 @@
 -- `moves_of`: the entries from k on are walked. Assumes nothing.
 use mathlib.Core.Path.{_≡_, refl, sym, ap, _∙_}
-use mathlib.Core.Bool.{Bool, true, false, not, _&&_, _||_}
+use mathlib.Core.Bool.{Bool, true, false, not, _&&_, _||_, and-false}
 use mathlib.Core.List.{List, [], _∷_}
 use Prim.Native.Nat.{ℕ, zero, suc, _-_, _<_, _≤_}
 use native.Mathlib.Omega.{arith}
@@ -18,6 +18,7 @@ use Rattle.rules.proofs.Same.{true-not-false}
 use Rattle.cells.specs.declared.Sign.{Sign}
 use Rattle.cells.specs.declared.Sign.the-variants.{Natural, Negative}
 use Rattle.cells.specs.View.{signOf}
+use Rattle.records.proofs.Sections.{sign-natural}
 use Rattle.reshape.specs.Permuting.{namesAxes, MovesAre}
 
 -- ---- the larger of two numbers
@@ -88,12 +89,7 @@ walk-start {entries} h =
       moves = λ a l missing numbers m. rw (none, fives-at a l) (sym (List·getD-eq-default numbers missing (omega arith)));
     }
 
--- a sign tells the number
-sign-natural : (z : ℤ) {n : ℕ} → signOf z ≡ Natural n → z ≡ pos n
-unfolding signOf
-sign-natural (pos m) {n} e = let same : m ≡ n = cc in ap pos same
-sign-natural (negsuc m) e = absurd (let y : _≡_ {A = ℕ} 0 1 = cc in omega arith)
-
+-- a negative number names no axis
 sign-negative : (z : ℤ) → signOf z ≡ Negative → upTo 3 z ≡ false
 unfolding signOf upTo
 sign-negative (pos m) e = absurd (let y : _≡_ {A = ℕ} 0 1 = cc in omega arith)
@@ -157,11 +153,7 @@ module _ {entries : List ℤ} {places : List ℕ} {most k : ℕ} (p : Walked ent
         unfolding natural
         walk-twice o =
             let again : any (eqb axis) (naturals (drop k entries)) ≡ true = sym (p .seen axis small) ∙ lt-ltb (getD places axis 0) 5 o in
-            unnamed (rw (is, named-more (pos axis) (drop k entries), again) (no-and (upTo 3 (pos axis) && all (upTo 3) (drop k entries))))
-          where
-            no-and : (b : Bool) → b && false ≡ false
-            no-and true = refl
-            no-and false = refl
+            unnamed (rw (is, named-more (pos axis) (drop k entries), again) (and-false (upTo 3 (pos axis) && all (upTo 3) (drop k entries))))
 
         -- one more axis
         pub walk-turn : 5 ≤ getD places axis 0 → Walked entries (set places axis (k - 1)) (larger axis most) (k - 1)

@@ -1,6 +1,6 @@
 -- `permute_into`: each arm writes the front of the permuted layout, and its dependencies are moved. Assumes nothing.
 use mathlib.Core.Path.{_≡_, refl, sym, ap, _∙_, subst}
-use mathlib.Core.Bool.{Bool, true, false, not, _&&_}
+use mathlib.Core.Bool.{Bool, true, false, not, _&&_, and-false}
 use mathlib.Core.List.{List, [], _∷_, _++_, map}
 use mathlib.Core.Logic.{inl}
 use Prim.Native.Nat.{ℕ, zero, suc, _+_, _-_, _<_, _≤_}
@@ -18,7 +18,7 @@ use Rattle.rules.specs.Lists.{if, largest, all, none}
 use Rattle.rules.specs.RowsInOrder.{sorted, Each}
 use Rattle.rules.specs.Buffers.{part}
 use Rattle.rules.specs.Refusals.{refused, numberOf}
-use Rattle.rules.specs.Layout.{Layout, rank, width, alike}
+use Rattle.rules.specs.Layout.{Layout, rank, alike}
 use Rattle.rules.specs.Record.{naturals, layoutIn, shapeIn}
 use Rattle.rules.specs.Dependencies.{indexOf, onIndex}
 use Rattle.rules.specs.Permute.{movedTo, moved, permuted, permute, repeats, isPermutation}
@@ -34,7 +34,6 @@ use Rattle.records.proofs.SoundRecords.{lies, layout-sound, layout-shown}
 use Rattle.parts.specs.Parts.{partSize, rowsFrom}
 use Rattle.moving.specs.Sections.{HeadAsked, HeadMade, TableMade}
 use Rattle.moving.specs.Picking.{picked, DepsPicked}
-use Rattle.moving.proofs.Shown.{rank-shown, dense-shown, kind-shown, deps-low}
 use Rattle.moving.proofs.Picking.{picked-length, picked-at}
 use Rattle.moving.proofs.Shortening.{map-alike}
 use Rattle.rules.specs.declared.Refusal.{Refusal}
@@ -42,9 +41,12 @@ use Rattle.rules.specs.declared.Step.{Step}
 use Rattle.rules.specs.Arguments.{upTo}
 use Rattle.rules.specs.CountsAndForms.{minRank, minRankOf}
 use Rattle.rules.proofs.Given.{permute-sound, permute-low}
+use Rattle.rules.proofs.Tests.{none-empty}
+use Rattle.records.proofs.Shown.{rank-shown, dense-shown, kind-shown, deps-low}
 use Rattle.lookups.proofs.SoundRecords.{lent-shape}
 use Rattle.parts.specs.Answers.{Says, Loaded}
-use Rattle.moving.proofs.Sections.{head-stays, table-stays, assembled, says-made, says-refused}
+use Rattle.parts.proofs.Saying.{says-refused}
+use Rattle.moving.proofs.Sections.{head-stays, table-stays, assembled, says-made}
 use Rattle.reshape.specs.Permuting.{Moves, Permutes, FrontSays, FrontMoved, MoveAsked, namesAxes, MovesAre, AxesMoved}
 use Rattle.reshape.proofs.Fronts.{head-same, front-made, bare-front}
 
@@ -271,7 +273,7 @@ module _ {h : Head} {most : ℕ} {s t : List ℤ} (q : MoveAsked h most s t) (pl
 
   -- refused
   pub axes-refused : {why : Refusal} → r ≡ Refused why → AxesMoved most places (layoutIn s) u (Refused why)
-  axes-refused {why} e entries p = says-refused why (said entries p e)
+  axes-refused {why} e entries p = says-refused why 0 _ (said entries p e)
 
   -- or made, with its dependencies
   pub axes-moved : {v : List ℤ} → r ≡ Done → DepsPicked (take (most + 2) (set places (most + 1) (h .rank))) (most + 2) (layoutIn s) u v → AxesMoved most places (layoutIn s) v Done
@@ -309,15 +311,6 @@ all-four true true c d = refl
 all-four true false c d = refl
 all-four false b c d = refl
 
-and-no : (a : Bool) → a && false ≡ false
-and-no true = refl
-and-no false = refl
-
-no-entries : (entries : List ℤ) → length entries ≡ 0 → none entries ≡ true
-unfolding none
-no-entries [] e = refl
-no-entries (z ∷ entries) e = absurd (omega arith)
-
 some-entries : (entries : List ℤ) → (length entries ≡ 0 → ⊥) → none entries ≡ false
 unfolding none
 some-entries [] d = absurd (d refl)
@@ -330,7 +323,7 @@ module _ {h : Head} {s : List ℤ} (r : SoundRecord h s) (entries : List ℤ) wh
 
   unusable-says : {t : List ℤ} → isPermutation (layoutIn s) entries ≡ false → Says (permute (layoutIn s) entries) 0 t (Refused NoPermutation)
   unfolding numberOf
-  unusable-says e = says-refused NoPermutation (permute-unusable (layoutIn s) entries e)
+  unusable-says e = says-refused NoPermutation 0 _ (permute-unusable (layoutIn s) entries e)
 
   -- more entries than axes
   pub too-many : {t : List ℤ} → h .rank < length entries → Says (permute (layoutIn s) entries) 0 t (Refused NoPermutation)
@@ -344,12 +337,12 @@ module _ {h : Head} {s : List ℤ} (r : SoundRecord h s) (entries : List ℤ) wh
     pub too-few : {t : List ℤ} → length entries < n → Says (permute (layoutIn s) entries) 0 t (Refused NoPermutation)
     too-few g =
         unusable-says
-        (permutation-is ∙ rw (lt-ltb (length entries) (minRank (layoutIn s)) (omega (arith, min-is)), and-no (not (ltb (rank (layoutIn s)) (length entries)))) refl)
+        (permutation-is ∙ rw (lt-ltb (length entries) (minRank (layoutIn s)) (omega (arith, min-is)), and-false (not (ltb (rank (layoutIn s)) (length entries)))) refl)
 
     module _ (enough : n ≤ length entries) {named : Bool} {most : ℕ} {places : List ℕ} (m : MovesAre entries named most places) where
       -- an entry that names no axis, or one twice
       pub unnamed-says : {t : List ℤ} → not named ≡ true → Says (permute (layoutIn s) entries) 0 t (Refused NoPermutation)
-      unnamed-says g = unusable-says (permutation-is ∙ rw (← m .named-is, not-true named g) (and-no (not (ltb (rank (layoutIn s)) (length entries)) && not (ltb (length entries) (minRank (layoutIn s))))))
+      unnamed-says g = unusable-says (permutation-is ∙ rw (← m .named-is, not-true named g) (and-false (not (ltb (rank (layoutIn s)) (length entries)) && not (ltb (length entries) (minRank (layoutIn s))))))
 
       module _ (g : not named ≡ false) where
         is-named : named ≡ true
@@ -362,7 +355,7 @@ module _ {h : Head} {s : List ℤ} (r : SoundRecord h s) (entries : List ℤ) wh
 
         -- none: a copy
         pub empty-says : {t : List ℤ} → length entries ≡ 0 → Loaded s t → Says (permute (layoutIn s) entries) 0 t Done
-        empty-says z d = says-made (permute-empty (layoutIn s) entries usable (no-entries entries z)) (d .layout) (layout-sound r) (deps-low r) (omega (arith, d .holds .inside))
+        empty-says z d = says-made (permute-empty (layoutIn s) entries usable (none-empty entries z)) (d .layout) (layout-sound r) (deps-low r) (omega (arith, d .holds .inside))
 
         -- some: the axes are moved
         pub ask-move : {t : List ℤ} → partSize ≤ length t → MoveAsked h most s t

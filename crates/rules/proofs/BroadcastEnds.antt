@@ -20,14 +20,9 @@ use Rattle.rules.proofs.Same.{both-true}
 use Rattle.rules.proofs.Sets.{head-least, each-head, each-tail}
 use Rattle.rules.proofs.Sorting.{sorted-increasing, sorted-each}
 use Rattle.rules.proofs.Alike.{alike-take}
-use Rattle.rules.proofs.Forming.{Framed, sound-framed, to-dense-framed, diagonal-framed, formed-sound, sound-given}
+use Rattle.rules.proofs.Forming.{Framed, sound-framed, diagonal-framed, formed-sound, sound-given}
 
 -- ---- sound layouts
-
--- the dense layout of a sound one is sound
-pub to-dense-sound : {l : Layout} → Sound l → Sound (toDense l)
-unfolding toDense
-to-dense-sound s = formed-sound (to-dense-framed (sound-framed s)) (omega arith) (s .sizes .states-few) (s .sizes .inputs-few)
 
 -- of rows without numbers there is at most one that differs
 no-two-less : (x y : List ℕ) → length x ≡ 0 → length y ≡ 0 → cmpRows x y ≡ Less → ⊥

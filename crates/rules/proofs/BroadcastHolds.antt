@@ -33,7 +33,8 @@ use Rattle.rules.proofs.UnionHolds.{union-holds}
 use Rattle.rules.proofs.Full.{full-has, full-holds}
 use Rattle.rules.proofs.IntersectHolds.{intersect-sound, intersect-holds}
 use Rattle.rules.proofs.Giving.{Giving, given-such, giving-if, giving-then, giving-step, giving-made}
-use Rattle.rules.proofs.BroadcastEnds.{to-dense-sound, rows-wide}
+use Rattle.rules.proofs.Forming.{to-dense-sound}
+use Rattle.rules.proofs.BroadcastEnds.{rows-wide}
 
 -- an index is held by one of the layouts, or by all of them
 abbrev pub heldBy : Rule → List Layout → List ℕ → Bool

@@ -1,19 +1,19 @@
 -- Which answer `contract_last_axis` gives of a sound layout, case by case. Assumes nothing.
 use mathlib.Core.Path.{_≡_, refl, sym, ap}
-use mathlib.Core.Bool.{Bool, true, false, _&&_, _||_}
+use mathlib.Core.Bool.{Bool, true, false, _||_}
 use mathlib.Core.List.{List, [], _∷_, map}
 use Prim.Native.Nat.{ℕ, zero, suc, _-_, _≤_, _<_}
 use native.Mathlib.Nat.{sub-zero}
 use native.Mathlib.Omega.{arith}
 use borrow.Author.Tests.{lt-ltb, le-ltb, eq-eqb, ne-eqb}
-use lib.Dec.{eqb, ltb}
+use lib.Dec.{ltb}
 use lib.ListN.{length, take}
 use lib.Seq.{length-take-le, take-take}
 use Rattle.rules.specs.Limits.{entryLimit}
-use Rattle.rules.specs.Lists.{if, product, allBelow}
+use Rattle.rules.specs.Lists.{if, allBelow}
 use Rattle.rules.specs.RowsInOrder.{sorted}
 use Rattle.rules.specs.Refusals.{given, refused, lowest}
-use Rattle.rules.specs.Layout.{Layout, rank, width, isDense, isDiagonal, isSparse}
+use Rattle.rules.specs.Layout.{Layout, rank, width, isDense, isDiagonal}
 use Rattle.rules.specs.Soundness.{NumbersBelow, DepsLow, Sound}
 use Rattle.rules.specs.Dependencies.{onIndex}
 use Rattle.rules.specs.CountsAndForms.{toDense, denseIfFull}
@@ -28,7 +28,7 @@ use Rattle.rules.proofs.Extents.{nonzero-take}
 use Rattle.rules.proofs.Alike.{alike-take}
 use Rattle.rules.proofs.Holding.{diagonal-extents}
 use Rattle.rules.proofs.Made.{Formed}
-use Rattle.rules.proofs.Forming.{DepsOfRank, Framed, states-of-rank, inputs-of-rank, dense-framed, diagonal-framed, sparse-framed, to-dense-framed, formed-sound, sound-given}
+use Rattle.rules.proofs.Forming.{DepsOfRank, Framed, states-of-rank, inputs-of-rank, dense-framed, diagonal-framed, sparse-framed, to-dense-framed, formed-sound, if-full, sound-given}
 use Rattle.rules.proofs.Changed.{take-low, each-map, changed-sorted, changed-sorted-low, sorted-map-length}
 
 -- ---- numbers without the last
@@ -74,15 +74,6 @@ module _ (l : Layout) where
   pub contracted-rows : l .kind ≡ 2 → l .dense ≡ 0 → contracted l ≡ denseIfFull (overShorter l 0 (sorted (map shortened (l .rows))))
   unfolding contracted
   contracted-rows k z = rw (k, z)
-
--- dense if full: what holds of a layout and of the dense one
-if-full : (P : Layout → Type 0) (x : Layout) → P x → P (toDense x) → P (denseIfFull x)
-unfolding denseIfFull
-if-full P x p q = go (isSparse x && eqb (length (x .rows)) (product (x .shape)))
-  where
-    go : (t : Bool) → P (if t (toDense x) x)
-    go true = q
-    go false = p
 
 -- ---- it is sound
 

@@ -5,14 +5,15 @@ use mathlib.Core.List.{List, [], _∷_}
 use Prim.Native.Nat.{ℕ, suc, _≤_, _<_}
 use native.Mathlib.Omega.{arith}
 use borrow.Author.Tests.{le-leb}
+use lib.Dec.{eqb}
 use lib.ListN.{length, getD, take}
 use Rattle.rules.specs.Limits.{rankLimit, entryLimit, productLimit, componentLimit}
-use Rattle.rules.specs.Lists.{allBelow}
-use Rattle.rules.specs.RowsInOrder.{sorted, increasing, Each, Increasing}
+use Rattle.rules.specs.Lists.{if, product, allBelow}
+use Rattle.rules.specs.RowsInOrder.{sorted, increasing, Each, Increasing, increasing-nil}
 use Rattle.rules.specs.Refusals.{given, refused, _then_, _when_, lowest}
-use Rattle.rules.specs.Layout.{Layout, rank, width, nonzeroProduct, alike, diagonalFits, wellFormed, withinSizes, made}
+use Rattle.rules.specs.Layout.{Layout, rank, width, isSparse, nonzeroProduct, alike, diagonalFits, wellFormed, withinSizes, made}
 use Rattle.rules.specs.Soundness.{DepsFit, WellFormed, Sound}
-use Rattle.rules.specs.CountsAndForms.{toDense}
+use Rattle.rules.specs.CountsAndForms.{toDense, denseIfFull}
 use Rattle.rules.proofs.Same.{true-not-false}
 use Rattle.rules.proofs.Sets.{each-nil, true-increasing}
 use Rattle.rules.proofs.Tests.{true-both}
@@ -61,6 +62,10 @@ module _ {l : Layout} (s : Sound l) where
     states-are = states-of-rank;
     inputs-are = inputs-of-rank;
   }
+
+-- no dependencies fit any layout
+pub no-deps-fit : (l : Layout) → DepsFit l []
+no-deps-fit l = record { lengths = each-nil _; increase = increasing-nil }
 
 -- ---- formed, kind by kind
 
@@ -161,6 +166,24 @@ formed-sound f r s i = record {
     inputs-small = f .inputs-small;
   };
 }
+
+-- the dense layout of a sound one is sound
+pub to-dense-sound : {l : Layout} → Sound l → Sound (toDense l)
+unfolding toDense
+to-dense-sound s = formed-sound (to-dense-framed (sound-framed s)) (omega arith) (s .sizes .states-few) (s .sizes .inputs-few)
+
+-- what holds of a layout and of its dense one holds of it dense if full
+pub if-full : (P : Layout → Type 0) (l : Layout) → P l → P (toDense l) → P (denseIfFull l)
+unfolding denseIfFull
+if-full P l p q = go (isSparse l && eqb (length (l .rows)) (product (l .shape)))
+  where
+    go : (t : Bool) → P (if t (toDense l) l)
+    go true = q
+    go false = p
+
+-- a sound layout is so dense if full
+pub full-sound : {l : Layout} → Sound l → Sound (denseIfFull l)
+full-sound {l} s = if-full Sound l s (to-dense-sound s)
 
 -- a sound layout is given
 pub sound-given : {l : Layout} → Sound l → made l ≡ given l

@@ -1,6 +1,6 @@
 -- Which positions a layout holds, by its kind. Assumes nothing.
 use mathlib.Core.Path.{_≡_, refl, sym, _∙_}
-use mathlib.Core.Bool.{Bool, true, false, _&&_}
+use mathlib.Core.Bool.{true, _&&_, and-true}
 use mathlib.Core.List.{List, [], _∷_, map, List·Memᴰ, Memᴰ·map, Memᴰ·of-map}
 use Prim.Native.Nat.{ℕ, zero, suc, _<_, _≤_}
 use native.Mathlib.Omega.{arith}
@@ -70,11 +70,6 @@ pub position-behind : {shape index : List ℕ} → Position shape index → (k :
 position-behind {shape} {index} p k = record { size = simp length-drop (omega arith); inside = drop-below index shape k (p .inside) }
 
 -- ---- what is held
-
--- a test beside one that holds
-and-true : (t : Bool) → t && true ≡ t
-and-true true = refl
-and-true false = refl
 
 module _ (l : Layout) (index : List ℕ) where
   -- only positions of the shape are held

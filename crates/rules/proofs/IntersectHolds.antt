@@ -5,14 +5,13 @@ use mathlib.Core.List.{List, [], _∷_}
 use Prim.Native.Nat.{ℕ}
 use native.Mathlib.Omega.{arith}
 use borrow.Author.Tests.{eqb-true, eqb-false}
-use lib.Dec.{eqb}
-use lib.ListN.{length, take}
-use Rattle.rules.specs.Lists.{if, keep, product, same}
+use lib.ListN.{take}
+use Rattle.rules.specs.Lists.{if, keep, same}
 use Rattle.rules.specs.RowsInOrder.{sorted, among}
 use Rattle.rules.specs.Refusals.{Verdict, given, refused, inForm, _then_, _when_, lowest}
-use Rattle.rules.specs.Layout.{Layout, width, isDense, isSparse, made}
+use Rattle.rules.specs.Layout.{Layout, width, isDense, made}
 use Rattle.rules.specs.Soundness.{WellFormed, Sound}
-use Rattle.rules.specs.CountsAndForms.{toDense, denseIfFull}
+use Rattle.rules.specs.CountsAndForms.{denseIfFull}
 use Rattle.rules.specs.Removal.{listsRow}
 use Rattle.rules.specs.Holding.{isPosition, holds}
 use Rattle.rules.specs.Pairs.{withMerged, alikeDiagonals, lowered, lowerD, barsExpansion, fewOf, unlessDenseRemoved}
@@ -24,7 +23,7 @@ use Rattle.rules.proofs.Keeping.{keep-only, keep-passes, keep-has}
 use Rattle.rules.proofs.Tests.{true-both}
 use Rattle.rules.proofs.Holding.{true-position, holds-position, holds-dense, holds-sparse}
 use Rattle.rules.proofs.Made.{made-sound}
-use Rattle.rules.proofs.Forming.{sound-framed, to-dense-framed, formed-sound}
+use Rattle.rules.proofs.Forming.{full-sound}
 use Rattle.rules.proofs.DenseRemoved.{before-removed}
 use Rattle.rules.proofs.Lowering.{Lowered, lowered-is}
 use Rattle.rules.proofs.Unions.{never}
@@ -53,20 +52,6 @@ pub record Intersected (a b l : Layout) : Type 0 where
   pub shapes : a .shape ≡ b .shape
   pub met : Met a b l
   pub is-sound : Sound l
-
--- a sound layout is so as dense
-dense-sound : {l : Layout} → Sound l → Sound (toDense l)
-unfolding toDense
-dense-sound s = formed-sound (to-dense-framed (sound-framed s)) (omega arith) (s .sizes .states-few) (s .sizes .inputs-few)
-
--- a sound layout is so as dense if full
-full-sound : {l : Layout} → Sound l → Sound (denseIfFull l)
-unfolding denseIfFull
-full-sound {l} s = go (isSparse l && eqb (length (l .rows)) (product (l .shape)))
-  where
-    go : (t : Bool) → Sound (if t (toDense l) l)
-    go true = dense-sound s
-    go false = s
 
 -- a layout of which an intersection was made
 module _ (a b : Layout) (e : a .shape ≡ b .shape) {l : Layout} where

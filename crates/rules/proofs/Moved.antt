@@ -48,7 +48,7 @@ moved-to-low {b} k (p ∷ entries) (x ∷ numbers) f = go (eqb p k) (moved-to-lo
     go false rest = rest
 
 -- numbers made of others are below b, if each of them is
-map-low : {b : ℕ} (f : ℕ → ℕ) → ((k : ℕ) → f k < b) → (l : List ℕ) → RowBelow b (map f l)
+pub map-low : {b : ℕ} (f : ℕ → ℕ) → ((k : ℕ) → f k < b) → (l : List ℕ) → RowBelow b (map f l)
 map-low f h [] k = omega (arith, h 0)
 map-low f h (x ∷ l) zero = h x
 map-low f h (x ∷ l) (suc k) = map-low f h l k

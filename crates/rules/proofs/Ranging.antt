@@ -35,7 +35,7 @@ module _ (axis start : ℕ) (index : List ℕ) where
       go false e = refl
 
   -- and no larger ones
-  less-start-low : {b : ℕ} → RowBelow b index → RowBelow b (lessStart axis start index)
+  pub less-start-low : {b : ℕ} → RowBelow b index → RowBelow b (lessStart axis start index)
   less-start-low {b} f = go (ltb axis (length index))
     where
       go : (t : Bool) → RowBelow b (if t (with axis (getD index axis 0 - start) index) index)

@@ -46,7 +46,7 @@ unfolding fitTo
 fit-length n v l = length-take-le n (l ++ replicate n v) (rw (length-append, length-replicate) (omega arith))
 
 -- one number, over and over, is below b if it is
-replicate-low : {b : ℕ} (n v : ℕ) → v < b → RowBelow b (replicate n v)
+pub replicate-low : {b : ℕ} (n v : ℕ) → v < b → RowBelow b (replicate n v)
 replicate-low zero v h k = omega arith
 replicate-low (suc n) v h zero = h
 replicate-low (suc n) v h (suc k) = replicate-low n v h k

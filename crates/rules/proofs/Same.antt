@@ -1,11 +1,12 @@
 -- Tests of sameness tell what they say, and agree with the order of rows. Assumes nothing.
-use mathlib.Core.Path.{_≡_, refl, sym}
+use mathlib.Core.Path.{_≡_, refl, sym, ap, _∙_}
 use mathlib.Core.Bool.{Bool, true, false, _&&_, _||_}
 use mathlib.Core.List.{List, [], _∷_}
 use Prim.Native.Nat.{ℕ}
 use native.Mathlib.Omega.{arith}
-use borrow.Author.Tests.{eqb-true, eq-eqb}
+use borrow.Author.Tests.{eqb-true, eqb-false, eq-eqb, ne-eqb}
 use lib.Dec.{eqb}
+use lib.ListN.{length}
 use Rattle.rules.specs.declared.Ordering.the-variants.{Equal}
 use Rattle.rules.specs.Lists.{same, sameRows}
 use Rattle.rules.specs.RowsInOrder.{cmpRows}
@@ -33,6 +34,14 @@ decided true b f g = sym (f refl)
 decided false true f g = g refl
 decided false false f g = refl
 
+-- two tests of numbers that hold together are one
+pub one-test : (a b c d : ℕ) → (a ≡ b → c ≡ d) → (c ≡ d → a ≡ b) → eqb a b ≡ eqb c d
+one-test a b c d f g = go (eqb a b) refl
+  where
+    go : (t : Bool) → eqb a b ≡ t → eqb a b ≡ eqb c d
+    go true e = e ∙ sym (eq-eqb c d (f (eqb-true a b e)))
+    go false e = e ∙ sym (ne-eqb c d (λ (u : c ≡ d). eqb-false a b e (g u)))
+
 -- ---- two lists
 
 -- lists that test the same are the same
@@ -45,6 +54,14 @@ same-true {p = x ∷ p} {q = y ∷ q} e =
     let h = both-true (eqb x y) (same p q) e in
     let rest : p ≡ q = same-true (h .1) in
     cc (eqb-true x y (h .0))
+
+-- lists of two lengths do not test the same
+pub lengths-differ : (p q : List ℕ) → (length p ≡ length q → ⊥) → same p q ≡ false
+lengths-differ p q n = go (same p q) refl
+  where
+    go : (t : Bool) → same p q ≡ t → t ≡ false
+    go true e = absurd (n (ap length (same-true e)))
+    go false e = refl
 
 -- a list tests the same as itself
 pub same-refl : (p : List ℕ) → same p p ≡ true

@@ -41,6 +41,14 @@ in-among {r} (List·Memᴰ·tail {x} {xs = t} m) = go (same r x) (in-among m)
 pub not-among : {r : List ℕ} {t : List (List ℕ)} → among r t ≡ false → In r t → ⊥
 not-among e m = true-not-false (in-among m) e
 
+-- a row that is none of t tests so
+pub not-in-among : (r : List ℕ) (t : List (List ℕ)) → (In r t → ⊥) → among r t ≡ false
+not-in-among r t n = go (among r t) refl
+  where
+    go : (b : Bool) → among r t ≡ b → b ≡ false
+    go true e = absurd (n (among-in r t e))
+    go false e = refl
+
 -- a row is one of t, or it is not
 pub in-or-not : (r : List ℕ) (t : List (List ℕ)) → In r t ⊎ (In r t → ⊥)
 in-or-not r t = go (among r t) refl

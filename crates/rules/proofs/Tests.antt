@@ -1,9 +1,11 @@
 -- What tests over lists tell, and how one is shown to hold. Assumes nothing.
 use mathlib.Core.Path.{_≡_, refl, sym, ap, _∙_}
 use mathlib.Core.Bool.{Bool, true, false, _&&_, _||_}
-use mathlib.Core.List.{List, [], _∷_, List·Memᴰ, List·Memᴰ·head, List·Memᴰ·tail}
+use mathlib.Core.List.{List, [], _∷_, _++_, List·Memᴰ, List·Memᴰ·head, List·Memᴰ·tail}
 use Prim.Native.Nat.{ℕ, zero, suc, _<_}
 use native.Mathlib.Omega.{arith}
+use borrow.Author.Tests.{ne-eqb}
+use lib.Dec.{eqb}
 use lib.ListN.{length, getD}
 use Rattle.rules.specs.Lists.{implies, all, any, none}
 use Rattle.rules.proofs.Same.{both-true, true-not-false}
@@ -50,6 +52,30 @@ unfolding none
 none-true {l = []} e = refl
 none-true {l = x ∷ l} e = cc
 
+module _ {A : Type 0} where
+  -- a list without length is empty
+  pub no-length : (l : List A) → length l ≡ 0 → l ≡ []
+  no-length [] e = refl
+  no-length (x ∷ l) e = absurd (omega arith)
+
+  -- it tests as empty
+  pub none-empty : (l : List A) → length l ≡ 0 → none l ≡ true
+  unfolding none
+  none-empty [] e = refl
+  none-empty (x ∷ l) e = absurd (omega arith)
+
+  -- any other does not
+  pub none-some : (l : List A) → 0 < length l → none l ≡ false
+  unfolding none
+  none-some [] h = absurd (omega arith)
+  none-some (x ∷ l) h = refl
+
+  -- a list tests as empty if its length tests as 0
+  pub none-counted : (l : List A) → none l ≡ eqb (length l) 0
+  unfolding none
+  none-counted [] = refl
+  none-counted (x ∷ l) = sym (ne-eqb (suc (length l)) 0 (λ e. omega arith))
+
 module _ {A : Type 0} (test : A → Bool) where
   -- where all elements pass, each one does
   pub all-each : {l : List A} → all test l ≡ true → (x : A) → List·Memᴰ x l → test x ≡ true
@@ -62,6 +88,16 @@ module _ {A : Type 0} (test : A → Bool) where
   unfolding all
   each-all [] f = refl
   each-all (x ∷ l) f = true-both (f x (List·Memᴰ·head refl)) (each-all l (λ y m. f y (List·Memᴰ·tail m)))
+
+  -- all elements of two lists pass, if those of each do
+  pub all-append : (p q : List A) → all test (p ++ q) ≡ all test p && all test q
+  unfolding all
+  all-append [] q = refl
+  all-append (x ∷ p) q = go (test x) (all-append p q)
+    where
+      go : (b : Bool) → all test (p ++ q) ≡ all test p && all test q → b && all test (p ++ q) ≡ (b && all test p) && all test q
+      go true e = e
+      go false e = refl
 
   -- where all elements pass, the one at an index does
   pub all-at : (l : List A) (d : A) → all test l ≡ true → (k : ℕ) → k < length l → test (getD l k d) ≡ true

@@ -6,12 +6,12 @@ use Prim.Native.Nat.{ℕ, zero, suc, _+_, _<_, _≤_}
 use native.Mathlib.Omega.{arith}
 use lib.Dec.{eqb}
 use lib.IntN.{ℤ, pos}
-use lib.ListN.{length, getD, take, drop, replicate, length-take, length-append, length-replicate}
+use lib.ListN.{length, getD, take, drop, replicate}
 use lib.Seq.{ext-getD}
 use Rattle.rules.specs.Lists.{putIf, keep, fitTo}
 use Rattle.rules.specs.Buffers.{part}
 use Rattle.rules.specs.Layout.{withinProduct}
-use Rattle.cells.specs.View.{view, Low}
+use Rattle.cells.specs.View.{view}
 use Rattle.tables.specs.Rows.{rowAt}
 
 -- four numbers, one by one
@@ -31,11 +31,6 @@ pub four-within : (l : List ℕ) {a b c d : ℤ} {t : Bool} → length l ≡ 4 �
 unfolding part view
 four-within l e p q r u f = f ∙ rw (p, q, r, u) (ap withinProduct (four-numbers l e))
 
--- as many as asked for
-pub fit-length : (n : ℕ) (l : List ℕ) → length (fitTo n 0 l) ≡ n
-unfolding fitTo
-fit-length n l = simp (length-take, length-append, length-replicate) (omega arith)
-
 -- zeros behind it fill a list up
 fit-behind : (n m : ℕ) (l : List ℕ) → length l ≤ n → n ≤ length l + m → l ++ drop (length l) (replicate n 0) ≡ take n (l ++ replicate m 0)
 fit-behind zero m [] h k = refl
@@ -47,19 +42,6 @@ fit-behind (suc n) m (x ∷ l) h k = ap (λ (t : List ℕ). x ∷ t) (fit-behind
 pub fit-over : (n : ℕ) (l : List ℕ) → length l ≤ n → l ++ drop (length l) (replicate n 0) ≡ fitTo n 0 l
 unfolding fitTo
 fit-over n l h = fit-behind n n l h (omega arith)
-
--- and none is negative
-fill-low : (n m : ℕ) (l : List ℕ) → Low l → Low (take n (l ++ replicate m 0))
-fill-low zero m l f k = omega arith
-fill-low (suc n) zero [] f k = omega arith
-fill-low (suc n) (suc m) [] f zero = omega arith
-fill-low (suc n) (suc m) [] f (suc k) = fill-low n m [] f k
-fill-low (suc n) m (x ∷ l) f zero = f 0
-fill-low (suc n) m (x ∷ l) f (suc k) = fill-low n m l (λ i. f (suc i)) k
-
-pub fit-low : (n : ℕ) (l : List ℕ) → Low l → Low (fitTo n 0 l)
-unfolding fitTo
-fit-low n l f = fill-low n n l f
 
 -- zeros are not kept, so they do not count in the product
 fit-keep : (n m : ℕ) (l : List ℕ) → length l ≤ n → keep (λ e. not (eqb e 0)) (take n (l ++ replicate m 0)) ≡ keep (λ e. not (eqb e 0)) l

@@ -20,6 +20,7 @@ use Rattle.rules.specs.Record.{natural, naturals, shapeIn}
 use Rattle.rules.specs.Arguments.{goodComponents, goodIndex}
 use Rattle.rules.specs.Positions.{ravelIndex, unravel}
 use Rattle.rules.proofs.Same.{both-true}
+use Rattle.rules.proofs.Replaced.{fit-length}
 use Rattle.cells.specs.View.{view}
 use Rattle.cells.proofs.View.{view-put, view-pos, view-zeros}
 use Rattle.tables.specs.Rows.{rowAt}
@@ -28,7 +29,7 @@ use Rattle.axes.proofs.Indices.{unravel-length}
 use Rattle.shapes.specs.Judged.{Judged}
 use Rattle.shapes.proofs.Reading.{component-small, natural-getD, inside-naturals, past-naturals}
 use Rattle.shapes.proofs.Judging.{rank-counted, rank-small, shape-row, shape-extents}
-use Rattle.shapes.proofs.Fitting.{four-numbers, fit-length, fit-over}
+use Rattle.shapes.proofs.Fitting.{four-numbers, fit-over}
 
 -- ---- the number of an index
 
@@ -131,6 +132,6 @@ module _ (n : ℕ) (shape : List ℤ) (j : Judged shape) (z : any (eqb 0) (shape
       a ∷ b ∷ c ∷ d ∷ [] ≡ fitTo rankLimit 0 (unravel n (shapeIn shape))
   index-by-value {index} f p q r t =
       let read = index-read f in
-      rw (p, q, r, t, read) (four-numbers (fitTo 4 0 (unravel n (shapeIn shape))) (fit-length 4 (unravel n (shapeIn shape))))
+      rw (p, q, r, t, read) (four-numbers (fitTo 4 0 (unravel n (shapeIn shape))) (fit-length 4 0 (unravel n (shapeIn shape))))
 
 pub ruleset unravel-laws = (index-room, index-by-value)

@@ -1,6 +1,6 @@
 -- Whether a shape broadcasts to another, axis by axis. Assumes nothing.
 use mathlib.Core.Path.{_≡_, refl, sym, ap, _∙_}
-use mathlib.Core.Bool.{Bool, true, false, _&&_, _||_}
+use mathlib.Core.Bool.{Bool, true, false, _&&_, _||_, and-true, and-false, or-true}
 use mathlib.Core.List.{List, [], _∷_, map}
 use Prim.Native.Nat.{ℕ, suc, _+_, _-_, _<_, _≤_}
 use native.Mathlib.Omega.{arith}
@@ -30,18 +30,6 @@ module _ (to source : ℕ) where
 pub ruleset axis-laws = (axis-larger, axis-one, axis-other)
 
 -- ---- two tests
-
-and-false : (a : Bool) → a && false ≡ false
-and-false true = refl
-and-false false = refl
-
-and-true : (a : Bool) → a && true ≡ a
-and-true true = refl
-and-true false = refl
-
-or-true : (a : Bool) → a || true ≡ true
-or-true true = refl
-or-true false = refl
 
 -- tests two by two
 and-exchange : (a p b q : Bool) → (a && p) && (b && q) ≡ (a && b) && (p && q)

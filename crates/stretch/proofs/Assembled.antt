@@ -34,11 +34,11 @@ use Rattle.tables.proofs.Only.{view-outside, row-outside}
 use Rattle.axes.specs.Extents.{Extents}
 use Rattle.records.specs.Sound.{SoundRecord}
 use Rattle.records.proofs.SoundRecords.{lies, layout-sound, layout-shown}
+use Rattle.records.proofs.Shown.{rank-shown, dense-shown, kind-shown, deps-low}
 use Rattle.parts.specs.Parts.{partSize, kindAt, denseAt, rankAt, layoutAt}
 use Rattle.parts.specs.Answers.{Says}
+use Rattle.parts.proofs.Saying.{says-refused}
 use Rattle.moving.specs.Sections.{HeadAsked, HeadMade}
-use Rattle.moving.proofs.Shown.{rank-shown, dense-shown, kind-shown, deps-low}
-use Rattle.moving.proofs.Sections.{says-refused}
 use Rattle.stretch.specs.Spread.{extentsIn}
 use Rattle.stretch.specs.Layouts.{StretchAsked, FillAsked, TablesMade}
 use Rattle.stretch.proofs.Fitting.{front-row}
@@ -91,7 +91,7 @@ module _ {h : Head} {src : List ℤ} {at n : ℕ} {shape : List ℤ} (a : Stretc
     -- shared axes do not fit: 6
     pub disagrees : not r ≡ true → (s : List ℤ) → Says answer 0 s (Refused ShapesDisagree)
     unfolding numberOf
-    disagrees f s = says-refused ShapesDisagree (stretch-disagrees (layoutIn src) new (told ∙ not-true r f))
+    disagrees f s = says-refused ShapesDisagree 0 _ (stretch-disagrees (layoutIn src) new (told ∙ not-true r f))
 
     module _ (f : not r ≡ false) where
       fits : sharedAxesFit (layoutIn src .shape) new ≡ true
@@ -100,7 +100,7 @@ module _ {h : Head} {src : List ℤ} {at n : ℕ} {shape : List ℤ} (a : Stretc
       -- D would fall below 0: 11
       pub bars : n < h .width → (s : List ℤ) → Says answer 0 s (Refused DenseAxes)
       unfolding numberOf
-      bars g s = says-refused DenseAxes (stretch-bars (layoutIn src) new fits (omega (arith, new-length, sum-is (a .source))))
+      bars g s = says-refused DenseAxes 0 _ (stretch-bars (layoutIn src) new fits (omega (arith, new-length, sum-is (a .source))))
 
       module _ (wide : h .width ≤ n) where
         stretches : Stretches (layoutIn src) new
@@ -118,7 +118,7 @@ module _ {h : Head} {src : List ℤ} {at n : ℕ} {shape : List ℤ} (a : Stretc
           unfolding numberOf
           breaks g s =
               let k = both-true (eqb (getD (view src) 0 0) 1) (not (alike (rowAt at (h .width) shape))) (sym is ∙ g) in
-              says-refused MadeUnsound
+              says-refused MadeUnsound 0 _
               (stretch-breaks stretches (layout-sound (a .source) .form) (kind-shown (a .source) ∙ eqb-true (getD (view src) 0 0) 1 (k .0)) (rw front (not-true (alike (rowAt at (h .width) shape)) (k .1))))
 
           -- the kind as it was read
@@ -194,7 +194,7 @@ module _ {h : Head} {src : List ℤ} {at n : ℕ} {shape : List ℤ} (a : Stretc
               -- or too large: 13
               pub too-large : z ≡ false → Says answer 0 t (Refused MadeTooLarge)
               unfolding numberOf stretched
-              too-large d = says-refused MadeTooLarge (answer-is ∙ rw (← p .verdict, d))
+              too-large d = says-refused MadeTooLarge 0 _ (answer-is ∙ rw (← p .verdict, d))
 
 -- ---- `stretch_to_rank`
 
@@ -209,7 +209,7 @@ module _ {h : Head} {src : List ℤ} {n : ℕ} (q : SoundRecord h src × (n ≤ 
     -- a cut axis is not 1: 6
     pub cut-disagrees : not b ≡ true → (s : List ℤ) → Says (broadcastToRank (layoutIn src) n) 0 s (Refused ShapesDisagree)
     unfolding numberOf
-    cut-disagrees f s = says-refused ShapesDisagree (rank-disagrees (layoutIn src) n (cut-told ∙ not-true b f))
+    cut-disagrees f s = says-refused ShapesDisagree 0 _ (rank-disagrees (layoutIn src) n (cut-told ∙ not-true b f))
 
     module _ (f : not b ≡ false) (extents : List ℤ) (long : length extents ≡ 4) (is : rowAt 0 n extents ≡ fitTo n 1 (extentsIn (h .rank) src)) where
       pub ask-stretch : StretchAsked h src 0 n extents

@@ -18,14 +18,11 @@ use Rattle.rules.proofs.Replaced.{fit-low}
 use Rattle.cells.specs.View.{view}
 use Rattle.cells.proofs.View.{view-set, view-over, view-part, view-getD, view-zeros}
 use Rattle.tables.specs.Rows.{rowAt, rowsAt, HasRow, HasRows}
-use Rattle.tables.specs.Tables.{tableAt, roomEnd, Ready}
+use Rattle.tables.specs.Tables.{Taken, Listed}
 use Rattle.tables.proofs.Rows.{row-length, row-number, lent-row, row-ends, has-row, rows-more, rows-none}
-use Rattle.tables.proofs.Only.{only-then, only-set, only-wider}
-use Rattle.tables.proofs.Made.{emptied, emptied-ready}
-use Rattle.lowering.specs.Lowering.{Taken}
-use Rattle.lowering.proofs.Taking.{taken-none}
+use Rattle.tables.proofs.Taking.{taken-none, cleared-ready, cleared-listed}
 use Rattle.stretch.specs.Spread.{Shapes, extentsIn, Smaller}
-use Rattle.stretch.specs.Tables.{inTurn, Filled, EntryAsked, FitAsked, DepsAsked, yielded}
+use Rattle.stretch.specs.Tables.{inTurn, EntryAsked, FitAsked, DepsAsked, yielded}
 use Rattle.stretch.proofs.InTurn.{gather-append, turn-more, taken-turn, taken-halt}
 use Rattle.stretch.proofs.Fitting.{fitted-front, front-row}
 
@@ -67,24 +64,6 @@ module _ {at old rank : ℕ} {s : List ℤ} (a : FitAsked at old rank s) where
         rw copied-is (fitted-front 0 (rowAt at old s) rank n 5 (rw (row-length at old s (omega (arith, a .room))) m) (omega (arith, a .rank-few))) in
         rw (changed (fitTo rank 0), q, view-set, ← view-getD s (at + old), add-one, take-suc-set (view copied) rank number (omega (arith, copied-long, a .rank-few)), front)
 
--- ---- a table that was emptied
-
-module _ {to w : ℕ} (s : List ℤ) {start : List ℤ} (room : roomEnd to w ≤ length s) (e : start ≡ set s to (pos 0)) where
-  -- it can take rows
-  pub start-ready : Ready to w start
-  start-ready = rw e (emptied-ready to w s room)
-
-  -- what it takes fills it
-  pub taken-filled : {rows : List (List ℕ)} {t : List ℤ} {r : Bool} → Taken to w rows start t r → Filled to w rows s t r
-  taken-filled p =
-      let empty : tableAt to w start ≡ [] = rw e (emptied to w s room) in
-      record {
-        verdict = rw empty at (p .verdict);
-        table = λ h. rw empty at (p .table h);
-        ready = p .ready;
-        only = only-then (rw e (only-wider (only-set to (pos 0) s) to (roomEnd to w) (omega arith) (omega arith))) (p .only);
-      }
-
 -- ---- all dependencies: `stretch_deps`
 
 -- what the rows of a slice give, one after the other
@@ -110,15 +89,15 @@ pub record Depending (first count old : ℕ) (src : List ℤ) (at rank : ℕ) (s
 module _ {first count old : ℕ} {src : List ℤ} {at rank : ℕ} {shape : List ℤ} {to : ℕ} {s : List ℤ} where
   pub start : {entry : List ℤ} → DepsAsked first count old src at rank shape to entry → s ≡ set entry to (pos 0) → Depending first count old src at rank shape to 0 s s
   unfolding gather from
-  start {entry} a e = record { rows = a .rows; shapes = a .shapes; upto = omega arith; taken = taken-none (start-ready entry (a .room) e) }
+  start {entry} a e = record { rows = a .rows; shapes = a .shapes; upto = omega arith; taken = taken-none (cleared-ready entry e (a .room)) }
 
   module _ {entry : List ℤ} (a : DepsAsked first count old src at rank shape to entry) (e : s ≡ set entry to (pos 0)) {t : List ℤ} {r : Bool} where
     -- all of it is what the rule gathers
     pub all-yielded : Taken to (rank + 1) (inTurn (yieldOf first old src (rowAt at rank shape)) count) s t r →
-        Filled to (rank + 1) (yielded first count old src (rowAt at rank shape)) entry t r
+        Listed to (rank + 1) (yielded first count old src (rowAt at rank shape)) entry t r
     all-yielded p =
         rw (rows-turn (λ d. alone (rowAt at rank shape) (stretchedAxes (extentsIn old src) (rowAt at rank shape)) (onIndex (fitTo (length (rowAt at rank shape)) 0) d)) first (old + 1) count src)
-        (taken-filled entry (a .room) e p)
+        (cleared-listed entry e (a .room) p)
 
   module _ {i : ℕ} {t : List ℤ} (g : Depending first count old src at rank shape to i s t) where
     pub done : count ≤ i → Taken to (rank + 1) (inTurn (yieldOf first old src (rowAt at rank shape)) count) s t true

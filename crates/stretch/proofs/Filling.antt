@@ -3,7 +3,7 @@ use mathlib.Core.Path.{_≡_, refl, sym, ap, _∙_}
 use mathlib.Core.Bool.{Bool, true, false, not}
 use mathlib.Core.List.{List, [], _∷_, map}
 use mathlib.Core.Logic.{_⊎_, inl, inr}
-use Prim.Native.Nat.{ℕ, zero, suc, _+_, _-_, _<_, _≤_}
+use Prim.Native.Nat.{ℕ, zero, suc, _+_, _<_, _≤_}
 use native.Mathlib.Nat.{one-mul, le-trans, add-suc, suc-add, add-zero, zero-add}
 use native.Mathlib.Omega.{arith}
 use borrow.Author.Tests.{le-leb, leb-true, not-true, not-false}
@@ -23,7 +23,7 @@ use Rattle.rules.proofs.Extents.{nonzero-more, nonzero-cons, nonzero-more-axes}
 use Rattle.rules.proofs.Low.{rows-low}
 use Rattle.rules.proofs.Stretching.{Stretches}
 use Rattle.tables.specs.Rows.{rowAt}
-use Rattle.tables.specs.Tables.{tableAt, Only}
+use Rattle.tables.specs.Tables.{tableAt, Only, Listed}
 use Rattle.tables.proofs.Rows.{row-length}
 use Rattle.tables.proofs.Only.{only-then, only-wider, table-outside}
 use Rattle.records.specs.Sound.{SoundRecord}
@@ -31,7 +31,7 @@ use Rattle.records.proofs.Layouts.{seen, axes, rows-room, has-states, has-input
 use Rattle.records.proofs.SoundRecords.{lies, layout-sound, layout-shown}
 use Rattle.parts.specs.Parts.{partSize, rowsFrom, statesFrom, inputsFrom}
 use Rattle.stretch.specs.Spread.{extentsIn, valuesOn, spreadOver}
-use Rattle.stretch.specs.Tables.{Filled, DepsAsked, RowsAsked, movedRows, yielded}
+use Rattle.stretch.specs.Tables.{DepsAsked, RowsAsked, movedRows, yielded}
 use Rattle.stretch.specs.Layouts.{FillAsked, TablesMade}
 use Rattle.stretch.proofs.ListedRows.{listed-rows}
 
@@ -69,7 +69,7 @@ spread-within old new w h e =
 
 -- ---- a list that was gathered until there were too many
 
-module _ {to w : ℕ} {rows : List (List ℕ)} {s t : List ℤ} {r : Bool} (p : Filled to w rows s t r) where
+module _ {to w : ℕ} {rows : List (List ℕ)} {s t : List ℤ} {r : Bool} (p : Listed to w rows s t r) where
   few-verdict : r ≡ few (sortedFew rows)
   few-verdict = p .verdict ∙ sym (few-sorted rows)
 
@@ -124,7 +124,7 @@ module _ {h : Head} {src : List ℤ} {at n : ℕ} {shape s : List ℤ} (a : Fill
     rows-are : sorted (movedRows (h .rows .first) (h .rows .count) (h .width) src (rowAt 0 (h .width) extents)) ≡ stretchRows l new
     rows-are = rw is (rw width-is at (listed-rows (sound .form) stretches))
 
-    module _ {t : List ℤ} {r : Bool} (p : Filled rowsFrom (h .width) (movedRows (h .rows .first) (h .rows .count) (h .width) src (rowAt 0 (h .width) extents)) s t r) where
+    module _ {t : List ℤ} {r : Bool} (p : Listed rowsFrom (h .width) (movedRows (h .rows .first) (h .rows .count) (h .width) src (rowAt 0 (h .width) extents)) s t r) where
       rows-verdict : r ≡ few (stretchRows l new)
       rows-verdict = rw rows-are at (p .verdict)
 
@@ -157,7 +157,7 @@ module _ {h : Head} {src : List ℤ} {at n : ℕ} {shape s : List ℤ} (a : Fill
           room = omega (arith, p .only .size, a .room, a .asked .shapes .new-few);
         }
 
-        module _ {u : List ℤ} {q : Bool} (d : Filled statesFrom (n + 1) (yielded (h .states .first) (h .states .count) (h .rank) src new) t u q) where
+        module _ {u : List ℤ} {q : Bool} (d : Listed statesFrom (n + 1) (yielded (h .states .first) (h .states .count) (h .rank) src new) t u q) where
           states-verdict : q ≡ few (stretchDeps (l .shape) new (l .states))
           unfolding stretchDeps
           states-verdict = few-verdict d
@@ -195,7 +195,7 @@ module _ {h : Head} {src : List ℤ} {at n : ℕ} {shape s : List ℤ} (a : Fill
               room = omega (arith, both-only .size, a .room, a .asked .shapes .new-few);
             }
 
-            module _ {v : List ℤ} {z : Bool} (i : Filled inputsFrom (n + 1) (yielded (h .inputs .first) (h .inputs .count) (h .rank) src new) u v z) where
+            module _ {v : List ℤ} {z : Bool} (i : Listed inputsFrom (n + 1) (yielded (h .inputs .first) (h .inputs .count) (h .rank) src new) u v z) where
               inputs-verdict : z ≡ few (stretchDeps (l .shape) new (l .inputs))
               unfolding stretchDeps
               inputs-verdict = few-verdict i

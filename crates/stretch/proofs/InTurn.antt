@@ -7,8 +7,8 @@ use native.Mathlib.Nat.{add-zero, add-suc, suc-add, zero-add}
 use native.Mathlib.Omega.{arith}
 use lib.IntN.{ℤ}
 use Rattle.rules.specs.Lists.{gather, from}
-use Rattle.lowering.specs.Lowering.{Taken}
-use Rattle.lowering.proofs.Taking.{taken-then, taken-stop}
+use Rattle.tables.specs.Tables.{Taken}
+use Rattle.tables.proofs.Taking.{taken-then, taken-stop}
 use Rattle.stretch.specs.Tables.{inTurn}
 
 -- ---- lists that are gathered

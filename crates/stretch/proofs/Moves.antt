@@ -12,17 +12,16 @@ use Rattle.rules.specs.Positions.{unravel}
 use Rattle.rules.proofs.Order.{ComparedNumbers, under, even, above, compareNumbers}
 use Rattle.cells.specs.View.{Low}
 use Rattle.tables.specs.Rows.{rowAt, HasRow}
-use Rattle.tables.specs.Tables.{Ready, Put}
+use Rattle.tables.specs.Tables.{Ready, Put, Taken, Listed}
 use Rattle.tables.proofs.Rows.{row-length, row-ends, row-in}
+use Rattle.tables.proofs.Taking.{taken-none, taken-one, cleared-ready, cleared-listed}
 use Rattle.axes.specs.Extents.{Extents}
 use Rattle.parts.specs.Parts.{rowsFrom}
-use Rattle.lowering.specs.Lowering.{Taken}
-use Rattle.lowering.proofs.Taking.{taken-none, taken-one}
 use Rattle.stretch.specs.Spread.{plus}
-use Rattle.stretch.specs.Tables.{inTurn, Filled, MoveAsked, MovesAsked, RowsAsked, movedRows}
+use Rattle.stretch.specs.Tables.{inTurn, MoveAsked, MovesAsked, RowsAsked, movedRows}
 use Rattle.stretch.proofs.InTurn.{taken-turn, taken-halt}
 use Rattle.stretch.proofs.Plus.{plus-at, index-length, index-small}
-use Rattle.stretch.proofs.Depending.{start-ready, taken-filled, rows-turn}
+use Rattle.stretch.proofs.Depending.{rows-turn}
 
 -- ---- one row: `put_moved`
 
@@ -110,9 +109,9 @@ pub record Listing (first count w : ℕ) (src extents : List ℤ) (size i : ℕ)
 
 -- all of them fill the table
 pub all-listed : {first count w : ℕ} {src extents s old t : List ℤ} {r : Bool} → RowsAsked first count w src extents old → s ≡ set old rowsFrom (pos 0) →
-    Taken rowsFrom w (inTurn (givenBy first w src (rowAt 0 w extents)) count) s t r → Filled rowsFrom w (movedRows first count w src (rowAt 0 w extents)) old t r
+    Taken rowsFrom w (inTurn (givenBy first w src (rowAt 0 w extents)) count) s t r → Listed rowsFrom w (movedRows first count w src (rowAt 0 w extents)) old t r
 all-listed {first} {count} {w} {src} {extents} {old = old} a e p =
-    rw (rows-turn (λ r. inTurn (movedBy r (rowAt 0 w extents)) (product (rowAt 0 w extents))) first w count src) (taken-filled old (a .target) e p)
+    rw (rows-turn (λ r. inTurn (movedBy r (rowAt 0 w extents)) (product (rowAt 0 w extents))) first w count src) (cleared-listed old e (a .target) p)
 
 module _ {first count w : ℕ} {src extents : List ℤ} {size : ℕ} {s : List ℤ} where
   pub list-start : {old : List ℤ} → RowsAsked first count w src extents old → s ≡ set old rowsFrom (pos 0) → size ≡ product (rowAt 0 w extents) →
@@ -125,7 +124,7 @@ module _ {first count w : ℕ} {src extents : List ℤ} {size : ℕ} {s : List �
     extents-are = a .extents-are;
     size-is = z;
     upto = omega arith;
-    taken = taken-none (start-ready old (a .target) e);
+    taken = taken-none (cleared-ready old e (a .target));
   }
 
   module _ {i : ℕ} {t : List ℤ} (g : Listing first count w src extents size i s t) where

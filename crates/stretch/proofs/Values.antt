@@ -13,10 +13,9 @@ use Rattle.rules.proofs.Replaced.{with-set, with-length, with-low}
 use Rattle.cells.specs.View.{view, Low}
 use Rattle.cells.proofs.View.{view-set}
 use Rattle.tables.specs.Rows.{rowAt, HasRow}
-use Rattle.tables.specs.Tables.{Ready, Put}
+use Rattle.tables.specs.Tables.{Ready, Put, Taken}
 use Rattle.tables.proofs.Rows.{row-length}
-use Rattle.lowering.specs.Lowering.{Taken}
-use Rattle.lowering.proofs.Taking.{taken-none, taken-one}
+use Rattle.tables.proofs.Taking.{taken-none, taken-one}
 use Rattle.stretch.specs.Tables.{inTurn, ValuesAsked}
 use Rattle.stretch.proofs.InTurn.{taken-turn, taken-halt}
 

@@ -2,7 +2,7 @@
 use mathlib.Core.Path.{_≡_, refl, sym, ap, _∙_}
 use mathlib.Core.Bool.{Bool, true, false}
 use mathlib.Core.List.{List, [], _∷_, _++_, map}
-use Prim.Native.Nat.{ℕ, _+_, _-_, _<_, _≤_}
+use Prim.Native.Nat.{ℕ, _+_, _<_, _≤_}
 use native.Mathlib.Omega.{arith}
 use lib.IntN.{ℤ}
 use lib.ListN.{length, getD, drop}
@@ -10,10 +10,9 @@ use Rattle.rules.specs.Lists.{if, keep, gather, from, below, with}
 use Rattle.rules.specs.Stretching.{isStretched, stretchedAxes, everyValue, alone}
 use Rattle.cells.specs.View.{view}
 use Rattle.tables.specs.Rows.{rowAt}
-use Rattle.tables.specs.Tables.{Put}
+use Rattle.tables.specs.Tables.{Put, Taken}
 use Rattle.tables.proofs.Rows.{row-length, row-number}
-use Rattle.lowering.specs.Lowering.{Taken}
-use Rattle.lowering.proofs.Taking.{taken-none, taken-one, taken-then, taken-stop}
+use Rattle.tables.proofs.Taking.{taken-none, taken-one, taken-then, taken-stop}
 use Rattle.stretch.specs.Spread.{extentsIn}
 use Rattle.stretch.specs.Tables.{inTurn, ValuesAsked, EntryAsked, yieldOn}
 use Rattle.stretch.proofs.InTurn.{taken-turn, taken-halt}

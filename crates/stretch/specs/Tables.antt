@@ -1,19 +1,17 @@
 -- What is put into a table of the part.
 use mathlib.Core.Path.{_≡_}
-use mathlib.Core.Bool.{Bool, true}
 use mathlib.Core.List.{List, [], _∷_}
 use Prim.Native.Nat.{ℕ, _+_, _*_, _≤_, _<_}
 use lib.IntN.{ℤ}
 use lib.ListN.{length, getD}
 use Rattle.rules.specs.Limits.{productLimit}
 use Rattle.rules.specs.Lists.{if, gather, below, product, fitTo}
-use Rattle.rules.specs.RowsInOrder.{sorted, Each}
-use Rattle.rules.specs.Layout.{few}
+use Rattle.rules.specs.RowsInOrder.{Each}
 use Rattle.rules.specs.Positions.{unravel}
 use Rattle.rules.specs.Dependencies.{onIndex}
 use Rattle.rules.specs.Stretching.{isStretched, stretchedAxes, everyValue, alone}
 use Rattle.tables.specs.Rows.{rowAt, rowsAt, HasRow, HasRows}
-use Rattle.tables.specs.Tables.{tableAt, roomEnd, Only, Ready}
+use Rattle.tables.specs.Tables.{roomEnd, Ready}
 use Rattle.axes.specs.Extents.{Extents}
 use Rattle.parts.specs.Parts.{rowsFrom}
 use Rattle.stretch.specs.Spread.{Shapes, extentsIn, plus}
@@ -21,13 +19,6 @@ use Rattle.stretch.specs.Spread.{Shapes, extentsIn, plus}
 -- what f gives for 0, 1, .., n - 1, one after the other
 abbrev pub inTurn : (ℕ → List (List ℕ)) → ℕ → List (List ℕ)
 inTurn f n = gather f (below n)
-
--- rows, in order and once each, are a table, or they are too many
-pub record Filled (to w : ℕ) (rows : List (List ℕ)) (s t : List ℤ) (r : Bool) : Type 0 where
-  pub verdict : r ≡ few (sorted rows)
-  pub table : r ≡ true → tableAt to w t ≡ sorted rows
-  pub ready : r ≡ true → Ready to w t
-  pub only : Only to (roomEnd to w) s t
 
 -- ---- dependencies
 

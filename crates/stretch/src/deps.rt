@@ -6,9 +6,9 @@ ghost use Rattle.rules.specs.Lists.{with, fitTo};
 ghost use Rattle.rules.specs.Dependencies.{onIndex};
 ghost use Rattle.rules.specs.Stretching.{stretchedAxes, alone};
 ghost use Rattle.tables.specs.Rows.{rowAt};
-ghost use Rattle.lowering.specs.Lowering.{Taken};
+ghost use Rattle.tables.specs.Tables.{Taken, Listed};
 ghost use Rattle.stretch.specs.Spread.{extentsIn};
-ghost use Rattle.stretch.specs.Tables.{inTurn, ValuesAsked, EntryAsked, yieldOn, FitAsked, DepsAsked, yielded, Filled};
+ghost use Rattle.stretch.specs.Tables.{inTurn, ValuesAsked, EntryAsked, yieldOn, FitAsked, DepsAsked, yielded};
 use super::spread::is_stretched;
 use super::spread::smaller;
 
@@ -111,7 +111,7 @@ pub fn stretch_deps(
     to: usize,
 ) -> bool
     requires { ⌜ DepsAsked first count old (now from) at rank (now shape) to (now part) ⌝ }
-    ensures { λ r. ⌜ Filled to (rank + 1) (yielded first count old (now (from .entry)) (rowAt at rank (now (shape .entry)))) (now (part .entry)) (now (part .exit)) r ⌝ }
+    ensures { λ r. ⌜ Listed to (rank + 1) (yielded first count old (now (from .entry)) (rowAt at rank (now (shape .entry)))) (now (part .entry)) (now (part .exit)) r ⌝ }
 {
     cells::store(part, to, 0);
     let mut i = 0;

@@ -4,10 +4,10 @@ ghost use mathlib.Core.List.{[], _∷_};
 ghost use Prim.Native.Nat.{_+_};
 ghost use Rattle.rules.specs.Positions.{unravel};
 ghost use Rattle.tables.specs.Rows.{rowAt};
-ghost use Rattle.lowering.specs.Lowering.{Taken};
+ghost use Rattle.tables.specs.Tables.{Taken, Listed};
 ghost use Rattle.parts.specs.Parts.{rowsFrom};
 ghost use Rattle.stretch.specs.Spread.{plus};
-ghost use Rattle.stretch.specs.Tables.{inTurn, Filled, AddAsked, MoveAsked, MovesAsked, RowsAsked, movedRows};
+ghost use Rattle.stretch.specs.Tables.{inTurn, AddAsked, MoveAsked, MovesAsked, RowsAsked, movedRows};
 
 // The row at a place plus an index, number by number.
 fn added(from: &[i32], at: usize, w: usize, index: [i32; 5]) -> [i32; 5]
@@ -65,7 +65,7 @@ pub fn stretch_rows(
     part: &mut [i32],
 ) -> bool
     requires { ⌜ RowsAsked first count w (now from) extents (now part) ⌝ }
-    ensures { λ r. ⌜ Filled rowsFrom w (movedRows first count w (now (from .entry)) (rowAt 0 w extents)) (now (part .entry)) (now (part .exit)) r ⌝ }
+    ensures { λ r. ⌜ Listed rowsFrom w (movedRows first count w (now (from .entry)) (rowAt 0 w extents)) (now (part .entry)) (now (part .exit)) r ⌝ }
 {
     cells::store(part, parts::ROWS, 0);
     let size = axes::product(&extents, 0, w);

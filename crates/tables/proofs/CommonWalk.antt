@@ -13,7 +13,7 @@ use Rattle.rules.specs.Lists.{any, keep, same}
 use Rattle.rules.specs.RowsInOrder.{cmpRows, among, In, Increasing}
 use Rattle.rules.proofs.Order.{cmp-equal, cmp-greater-flip, less-not-same}
 use Rattle.rules.proofs.Same.{same-true}
-use Rattle.rules.proofs.Sets.{among-in, in-among, head-least, next-increasing}
+use Rattle.rules.proofs.Sets.{in-among, head-least, next-increasing, not-in-among}
 use Rattle.rules.proofs.Keeping.{keep-pass, keep-fail, keep-length}
 use Rattle.tables.specs.Rows.{rowAt, rowsAt}
 use Rattle.tables.specs.Tables.{tableAt, nextOf, commonRows, CommonRows}
@@ -22,14 +22,6 @@ use Rattle.tables.proofs.Tables.{table-length}
 use Rattle.tables.proofs.Walking.{left-rest, Movable, Walk, first-left, second-left, both-left, both-next, pass, move, counted}
 
 -- ---- lists
-
--- a row that is none of the rows tests so
-not-in-among : (r : List ℕ) (t : List (List ℕ)) → (In r t → ⊥) → among r t ≡ false
-not-in-among r t n = go (among r t) refl
-  where
-    go : (b : Bool) → among r t ≡ b → among r t ≡ false
-    go true e = absurd (n (among-in r t e))
-    go false e = e
 
 -- tests that agree keep the same rows
 keep-same : (f g : List ℕ → Bool) (t : List (List ℕ)) → ((r : List ℕ) → In r t → f r ≡ g r) → keep f t ≡ keep g t

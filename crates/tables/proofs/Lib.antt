@@ -15,4 +15,5 @@ pub mod Walking
 pub mod MergeWalk
 pub mod CommonWalk
 pub mod Made
+pub mod Taking
 pub mod Passing

@@ -4,15 +4,15 @@ use mathlib.Core.List.{List, [], _∷_, _++_}
 use Prim.Native.Nat.{ℕ, zero, suc, _+_, _*_, _-_, _^_, _<_, _≤_}
 use native.Mathlib.Nat.{suc-mul, zero-mul, suc-add, zero-add, mul-le-mul-right}
 use native.Mathlib.Omega.{arith}
-use lib.IntN.{ℤ}
-use lib.ListN.{length, getD, take, drop}
+use lib.IntN.{ℤ, pos}
+use lib.ListN.{length, getD, take, drop, replicate}
 use lib.Seq.{getD-take, getD-drop, drop-drop, take-at, drop-at}
 use Rattle.rules.specs.Buffers.{part, put}
-use Rattle.rules.specs.RowsInOrder.{In}
+use Rattle.rules.specs.RowsInOrder.{In, Each}
 use Rattle.rules.specs.Record.{rowsOf}
 use Rattle.rules.proofs.Buffers.{length-part, part-put-all}
 use Rattle.rules.proofs.Sets.{each-head, each-tail}
-use Rattle.rules.proofs.Places.{in-at}
+use Rattle.rules.proofs.Places.{in-at, in-stands}
 use Rattle.rules.proofs.RowsRead.{rows-length, rows-row, rows-cut}
 use Rattle.cells.specs.View.{view}
 use Rattle.cells.proofs.View.{view-length, view-part}
@@ -37,6 +37,20 @@ row-low a w k s r h = rw (row-number a w k s) at (r .low k)
 pub lent-row : (a w : ℕ) (s : List ℤ) → take (a + w - a) (drop a s) ≡ part a w s
 unfolding part
 lent-row a w s = let e : a + w - a ≡ w = omega arith in rw e
+
+-- a row of five equal numbers
+abbrev pub five : ℤ → List ℤ
+five z = z ∷ z ∷ z ∷ z ∷ z ∷ []
+
+-- the first of them
+pub five-row : (w i : ℕ) → w ≤ 4 → rowAt 0 w (five (pos i)) ≡ replicate w i
+unfolding part view
+five-row zero i h = refl
+five-row (suc zero) i h = refl
+five-row (suc (suc zero)) i h = refl
+five-row (suc (suc (suc zero))) i h = refl
+five-row (suc (suc (suc (suc zero)))) i h = refl
+five-row (suc (suc (suc (suc (suc w))))) i h = absurd (omega arith)
 
 -- ---- some rows
 
@@ -66,6 +80,13 @@ module _ (a w n : ℕ) (s : List ℤ) where
   -- it is one of the rows
   pub row-in : (i : ℕ) → i < n → In (rowAt (a + i * w) w s) (rowsAt a w n s)
   row-in i h = rw (← row-of i h) (in-at (rowsAt a w n s) i (rw length-rows h))
+
+  -- they have w numbers each, if all of them lie in the slice
+  pub rows-wide : a + n * w ≤ length s → Each (λ r. length r ≡ w) (rowsAt a w n s)
+  rows-wide h r m =
+      let k = in-stands m in
+      let inside : k .index < n = rw length-rows at (k .within) in
+      ap length (sym (k .is) ∙ row-of (k .index) inside) ∙ row-length (a + k .index * w) w s (omega (arith, row-ends w inside))
 
   -- it lies in the slice, with no negative number, if all do
   pub has-row : HasRows a w n s → (i : ℕ) → i < n → HasRow (a + i * w) w s

@@ -1,5 +1,5 @@
 -- Tables by their counts and rows. Assumes nothing.
-use mathlib.Core.Path.{_≡_, sym, _∙_}
+use mathlib.Core.Path.{_≡_, refl, sym, _∙_}
 use mathlib.Core.List.{List}
 use mathlib.Core.Logic.{inr}
 use Prim.Native.Nat.{ℕ, _+_, _*_, _<_, _≤_}
@@ -7,12 +7,12 @@ use native.Mathlib.Nat.{mul-le-mul-right}
 use native.Mathlib.Omega.{arith}
 use lib.IntN.{ℤ, pos}
 use lib.ListN.{length, getD, set}
-use lib.Seq.{getD-set-same}
+use Rattle.rules.specs.RowsInOrder.{Each}
 use Rattle.cells.specs.View.{view}
-use Rattle.cells.proofs.View.{view-length, view-set}
+use Rattle.cells.proofs.View.{stored-number}
 use Rattle.tables.specs.Rows.{rowsAt, HasRows}
 use Rattle.tables.specs.Tables.{tableAt, Fits}
-use Rattle.tables.proofs.Rows.{length-rows}
+use Rattle.tables.proofs.Rows.{length-rows, rows-wide}
 use Rattle.tables.proofs.Only.{only-set, rows-outside}
 
 -- a table of n rows is the n rows behind the count
@@ -32,8 +32,13 @@ fits-rows {at} {w} {n} {s} f e = record {
   low = rw (← table-rows at w n s e) (f .low);
 }
 
+-- its rows are as long as its width
+pub table-wide : {at w : ℕ} {s : List ℤ} → Fits at w s → Each (λ r. length r ≡ w) (tableAt at w s)
+table-wide {at} {w} {s} f =
+    let n : ℕ = getD (view s) at 0 in
+    rw (table-rows at w n s refl) (rows-wide (at + 1) w n s (fits-rows f refl .room))
+
 -- a count that is stored makes a table of so many rows
 pub count-stored : (at w n : ℕ) (s : List ℤ) → at < length s → tableAt at w (set s at (pos n)) ≡ rowsAt (at + 1) w n s
 count-stored at w n s h =
-    let there : n ≡ getD (view (set s at (pos n))) at 0 = rw view-set (sym (getD-set-same (view s) at n 0 (rw view-length h))) in
-    table-rows at w n (set s at (pos n)) there ∙ rows-outside (only-set at (pos n) s) (at + 1) w n (inr (omega arith))
+    table-rows at w n (set s at (pos n)) (sym (stored-number at n s h)) ∙ rows-outside (only-set at (pos n) s) (at + 1) w n (inr (omega arith))

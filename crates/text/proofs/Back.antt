@@ -12,6 +12,7 @@ use lib.Signed.{mag}
 use borrow.Author.Tests.{leb-true, ltb-true, lt-ltb, le-leb, ne-eqb}
 use Rattle.rules.specs.Lists.{if, all, none}
 use Rattle.rules.proofs.Same.{both-true}
+use Rattle.rules.proofs.Tests.{true-both, all-append}
 use Rattle.text.specs.Read.{numbers, isGap, isDigit, isNumber, valueFrom, wordOf, wordEnd, both, readFrom, readText}
 use Rattle.text.specs.Written.{digitsIn, digits, numberText, restText, lineText}
 
@@ -29,12 +30,6 @@ module _ (b : ℕ) (h : isDigit b ≡ true) where
 
 is-digit : (d : ℕ) → d < 10 → isDigit (48 + d) ≡ true
 is-digit d h = rw (le-leb 48 (48 + d) (omega arith), le-leb (48 + d) 57 (omega arith))
-
-all-append : (test : ℕ → Bool) (s t : List ℕ) → all test s ≡ true → all test t ≡ true → all test (s ++ t) ≡ true
-unfolding all
-all-append test [] t p q = q
-all-append test (b ∷ s) t p q =
-    let here = both-true (test b) (all test s) p in rw (here .0) (all-append test s t (here .1) q)
 
 value-append : (v : ℕ) (s t : List ℕ) → valueFrom v (s ++ t) ≡ valueFrom (valueFrom v s) t
 unfolding valueFrom
@@ -59,7 +54,7 @@ spells-more n text s =
     let size = s .some in
     record {
       some = simp length-append (omega arith);
-      only = all-append isDigit text ((48 + n % 10) ∷ []) (s .only) last;
+      only = all-append isDigit text ((48 + n % 10) ∷ []) ∙ true-both (s .only) last;
       value = value-append 0 text ((48 + n % 10) ∷ []) ∙ rw (s .value) (omega (arith, div-add-mod' n 10));
     }
 

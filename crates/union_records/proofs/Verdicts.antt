@@ -11,7 +11,6 @@ use Rattle.rules.specs.declared.Refusal.{Refusal}
 use Rattle.rules.specs.declared.Written.{Written}
 use Rattle.rules.specs.declared.Written.the-variants.{Numbers, Refused}
 use Rattle.rules.specs.Limits.{resultSize, workSize}
-use Rattle.rules.specs.Lists.{none}
 use Rattle.rules.specs.Buffers.{over}
 use Rattle.rules.specs.Refusals.{Verdict, given, refused, inForm, numberOf, _then_, _when_, lowest}
 use Rattle.rules.specs.Layout.{Layout, encode}
@@ -22,6 +21,7 @@ use Rattle.rules.specs.Endings.{resultAfter, writtenSays, Ends}
 use Rattle.rules.specs.Union.{union, unionCall}
 use Rattle.rules.proofs.Encoded.{encode-short, layout-alone, sound-alone}
 use Rattle.rules.proofs.Unions.{never, union-sound}
+use Rattle.rules.proofs.Tests.{none-empty, none-some}
 use Rattle.records.proofs.EndToEnd.{to-end}
 use Rattle.text.specs.Read.{Reading}
 use Rattle.record_text.specs.Texts.{textReading}
@@ -35,18 +35,6 @@ unfolding unionText
 text-is text e = rw e
 
 -- ---- leftovers
-
--- a list of no elements has none
-none-empty : {A : Type 0} (l : List A) → length l ≡ 0 → none l ≡ true
-unfolding none
-none-empty [] e = refl
-none-empty (x ∷ l) e = absurd (omega arith)
-
--- any other has some
-none-some : {A : Type 0} (l : List A) → 0 < length l → none l ≡ false
-unfolding none
-none-some [] h = absurd (omega arith)
-none-some (x ∷ l) h = refl
 
 -- the first record of a list ends at one place, the second at another
 module _ (list : List ℤ) (first second : ℕ) (p : drop first list ≡ behindRecord list) (q : drop second list ≡ behindRecord (drop first list)) where

@@ -3,7 +3,8 @@ use Prim.Native.Nat.{_-_}
 use native.Mathlib.Omega.{arith}
 use borrow.Author.Needs.{needs}
 use borrow.Author.Tests.{not-true, not-false}
-use Rattle.lowering.proofs.Diagonals.{laws, Diagonal, held-is, can-take, diagonal-row, turn, stop}
+use Rattle.cells.proofs.Signed.{held-pos}
+use Rattle.lowering.proofs.Diagonals.{laws, Diagonal, can-take, diagonal-row, turn, stop}
 use Rattle.lowering.proofs.list_diagonal.Statement.{statement}
 use Rattle.lowering.proofs.list_diagonal.Tie as tie
 
@@ -27,7 +28,7 @@ put-row-requires c κs =
     let v = c .before .before in
     let i = v .before in
     let g = i .before .loop .inv in
-    (can-take g, diagonal-row g (i .loop-test .taken) (held-is (i .before .loop .i) (omega arith) (v .whole .ensures)))
+    (can-take g, diagonal-row g (i .loop-test .taken) (held-pos (i .before .loop .i) (omega arith) (v .whole .ensures)))
 
 same-length : tie.Need-same-length Inv-loop μ-loop
 same-length c = search (needs, laws)
@@ -37,7 +38,7 @@ returns c =
     let p = c .before .before in
     let v = p .before .before .before in
     let i = v .before in
-    stop (i .before .loop .inv) (i .loop-test .taken) (held-is (i .before .loop .i) (omega arith) (v .whole .ensures)) (p .put-row .ensures)
+    stop (i .before .loop .inv) (i .loop-test .taken) (held-pos (i .before .loop .i) (omega arith) (v .whole .ensures)) (p .put-row .ensures)
     (not-true (p .put-row .result) (c .if1 .taken))
 
 add-i : tie.Need-add-i Inv-loop μ-loop
@@ -51,7 +52,7 @@ loop-again c =
     let p = c .before .before in
     let v = p .before .before .before in
     let i = v .before in
-    turn (i .before .loop .inv) (i .loop-test .taken) (held-is (i .before .loop .i) (omega arith) (v .whole .ensures)) (p .put-row .ensures)
+    turn (i .before .loop .inv) (i .loop-test .taken) (held-pos (i .before .loop .i) (omega arith) (v .whole .ensures)) (p .put-row .ensures)
     (not-false (p .put-row .result) (c .if1 .left))
 
 same-length-2 : tie.Need-same-length-2 Inv-loop μ-loop

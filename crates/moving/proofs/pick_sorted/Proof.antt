@@ -3,7 +3,8 @@ use Prim.Native.Nat.{_-_}
 use native.Mathlib.Omega.{arith}
 use borrow.Author.Needs.{needs}
 use Rattle.rules.specs.RowsInOrder.{sorted}
-use Rattle.moving.proofs.Filling.{Filling, row-ended, picked-row, can-take, turn-sorted, filled, sorted-most, rows-laws, sorted-laws}
+use Rattle.rules.proofs.Sorting.{sorted-length}
+use Rattle.moving.proofs.Filling.{Filling, row-ended, picked-row, can-take, turn-sorted, filled, rows-laws, sorted-laws}
 use Rattle.moving.proofs.pick_sorted.Statement.{statement}
 use Rattle.moving.proofs.pick_sorted.Tie as tie
 
@@ -58,7 +59,7 @@ returns : tie.Need-returns Inv-loop μ-loop
 returns c =
     let loop = c .before .before in
     let stored = loop .before .before in
-    filled (stored .before .before .pre) (stored .store .ensures) sorted-most (loop .loop .inv) (c .if1 .left)
+    filled (stored .before .before .pre) (stored .store .ensures) sorted-length (loop .loop .inv) (c .if1 .left)
 
 pub pick-sorted-spec : {M : Type 1} → statement M
 pick-sorted-spec =

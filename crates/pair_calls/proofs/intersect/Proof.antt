@@ -11,9 +11,9 @@ use Rattle.rules.specs.Intersect.{intersect, intersectCall}
 use Rattle.records.specs.Sound.{SoundRecord}
 use Rattle.records.proofs.SoundRecords.{sound-record}
 use Rattle.judging.specs.LentSizes.{SizesKept}
-use Rattle.judging.proofs.PairCalls.{pair-early, pair-kept, pair-late, pair-late-first, pair-late-second, pair-done}
+use Rattle.judging.proofs.PairCalls.{pair-early, pair-kept, pair-late, pair-late-first, pair-late-second, pair-done, late-intersect}
 use Rattle.pair_calls.proofs.InWindow.{says-in-window, only-in-window}
-use Rattle.pair_calls.proofs.Intersections.{late-intersect, order, unordered, in-order, ordered-in-window}
+use Rattle.pair_calls.proofs.Intersections.{order, unordered, in-order, ordered-in-window}
 use Rattle.pair_calls.proofs.intersect.Statement.{statement}
 use Rattle.pair_calls.proofs.intersect.Tie as tie
 

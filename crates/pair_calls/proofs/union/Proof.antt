@@ -1,27 +1,20 @@
 -- `union`: what is judged, both records loaded and united in a window that is lent twice, and the end of the call.
-use mathlib.Core.Path.{_≡_, refl}
 use mathlib.Core.Bool.{_||_}
 use mathlib.Core.List.{[]}
 use native.Mathlib.Omega.{arith}
 use borrow.Author.Needs.{needs}
 use denote.Ref.{now}
 use lib.ListN.{length, length-take}
-use Rattle.rules.specs.Refusals.{given, lowest}
 use Rattle.rules.specs.Arguments.{overRecord}
 use Rattle.rules.specs.Union.{union, unionCall}
 use Rattle.records.specs.Sound.{SoundRecord}
 use Rattle.records.proofs.SoundRecords.{sound-record}
 use Rattle.judging.specs.LentSizes.{SizesKept}
-use Rattle.judging.proofs.PairCalls.{pair-early, pair-kept, pair-late-first, pair-late-second, pair-done}
+use Rattle.judging.proofs.PairCalls.{pair-early, pair-kept, pair-late-first, pair-late-second, pair-done, late-union}
+use Rattle.judging.proofs.Endings.{nothing-more}
 use Rattle.pair_calls.proofs.InWindow.{asked-in-window, says-in-window, only-in-window}
-use Rattle.pair_calls.proofs.Unions.{late-union}
 use Rattle.pair_calls.proofs.union.Statement.{statement}
 use Rattle.pair_calls.proofs.union.Tie as tie
-
--- no reason stands behind 3
-nothing-more : lowest [] ≡ given tt
-unfolding lowest
-nothing-more = refl
 
 -- where the function begins
 abbrev startOf : tie.After-enum-told → tie.Start

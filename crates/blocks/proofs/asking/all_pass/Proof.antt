@@ -2,8 +2,8 @@
 use Prim.Native.Nat.{_-_}
 use borrow.Author.Needs.{needs}
 use Rattle.tables.proofs.Passing.{Passed}
+use Rattle.lists.specs.Records.{layoutsAt}
 use Rattle.blocks.specs.Asked.{asked}
-use Rattle.blocks.specs.Blocks.{layoutsAt}
 use Rattle.blocks.proofs.Asks.{pass-laws}
 use Rattle.blocks.proofs.asking.all_pass.Statement.{statement}
 use Rattle.blocks.proofs.asking.all_pass.Tie as tie

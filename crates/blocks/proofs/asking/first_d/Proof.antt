@@ -1,7 +1,7 @@
 -- `first_d`: the layouts before this one are dense.
 use Prim.Native.Nat.{_-_}
 use borrow.Author.Needs.{needs}
-use Rattle.blocks.specs.Blocks.{layoutsAt}
+use Rattle.lists.specs.Records.{layoutsAt}
 use Rattle.blocks.proofs.Asks.{DenseTo, dense-turn, first-laws}
 use Rattle.blocks.proofs.asking.first_d.Statement.{statement}
 use Rattle.blocks.proofs.asking.first_d.Tie as tie

@@ -2,7 +2,7 @@
 use Prim.Native.Nat.{_-_}
 use borrow.Author.Needs.{needs}
 use borrow.Author.Tests.{not-false}
-use Rattle.blocks.specs.Blocks.{layoutsAt}
+use Rattle.lists.specs.Records.{layoutsAt}
 use Rattle.blocks.proofs.Ways.{AxesTo, axes-turn, lastTest, last-is, last-laws}
 use Rattle.blocks.proofs.deciding.last_agree.Statement.{statement}
 use Rattle.blocks.proofs.deciding.last_agree.Tie as tie

@@ -1,7 +1,7 @@
 -- `later_agree`: the axes before this one agree.
 use Prim.Native.Nat.{_-_}
 use borrow.Author.Needs.{needs}
-use Rattle.blocks.specs.Blocks.{layoutsAt}
+use Rattle.lists.specs.Records.{layoutsAt}
 use Rattle.blocks.proofs.Ways.{AxesTo, laterTest, later-laws}
 use Rattle.blocks.proofs.deciding.later_agree.Statement.{statement}
 use Rattle.blocks.proofs.deciding.later_agree.Tie as tie

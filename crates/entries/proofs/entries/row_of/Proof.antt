@@ -1,7 +1,7 @@
 -- `row_of`: by the kind.
 use native.Mathlib.Omega.{arith}
+use Rattle.cells.proofs.Signed.{held-pos}
 use Rattle.lookups.proofs.Counting.{kind-inside}
-use Rattle.lowering.proofs.Diagonals.{held-is}
 use Rattle.entries.proofs.Listing.{ask-index, is-index, number-fits, is-diagonal, row-ended, ask-read, is-row}
 use borrow.Author.Needs.{needs}
 use Rattle.entries.proofs.entries.row_of.Statement.{statement}
@@ -35,7 +35,7 @@ returns-2 : tie.Need-returns-2
 returns-2 c =
     let i = c .before in
     let g = i .before .before in
-    is-diagonal (g .before .pre .0) (g .before .pre .1) (g .get .ensures .0) (i .if2 .taken) (held-is _ (number-fits (g .before .pre .0) (g .before .pre .1) (g .get .ensures .0) (i .if2 .taken)) (c .whole .ensures))
+    is-diagonal (g .before .pre .0) (g .before .pre .1) (g .get .ensures .0) (i .if2 .taken) (held-pos _ (number-fits (g .before .pre .0) (g .before .pre .1) (g .get .ensures .0) (i .if2 .taken)) (c .whole .ensures))
 
 mul-read-row : tie.Need-mul-read-row
 mul-read-row c =

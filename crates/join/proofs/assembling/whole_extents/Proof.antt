@@ -1,6 +1,6 @@
 -- `whole_extents`: each extent is small enough for a slice.
 use borrow.Author.Needs.{needs}
-use Rattle.lowering.proofs.Diagonals.{held-is}
+use Rattle.cells.proofs.Signed.{held-pos}
 use Rattle.join.proofs.Joins.{extents-seen}
 use Rattle.join.proofs.assembling.whole_extents.Statement.{statement}
 use Rattle.join.proofs.assembling.whole_extents.Tie as tie
@@ -35,7 +35,7 @@ returns c =
     let two = three .before in
     let one = two .before in
     let e = one .before .pre in
-    extents-seen _ (e .1) (held-is _ (e .0 0) (one .whole .ensures)) (held-is _ (e .0 1) (two .whole2 .ensures)) (held-is _ (e .0 2) (three .whole3 .ensures)) (held-is _ (e .0 3) (c .whole4 .ensures))
+    extents-seen _ (e .1) (held-pos _ (e .0 0) (one .whole .ensures)) (held-pos _ (e .0 1) (two .whole2 .ensures)) (held-pos _ (e .0 2) (three .whole3 .ensures)) (held-pos _ (e .0 3) (c .whole4 .ensures))
 
 pub whole-extents-spec : {M : Type 1} → statement M
 whole-extents-spec =
