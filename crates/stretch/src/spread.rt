@@ -9,9 +9,7 @@ ghost use Rattle.rules.specs.Stretching.{sharedAxesFit, isStretched};
 ghost use Rattle.cells.specs.View.{view};
 ghost use Rattle.tables.specs.Rows.{rowAt};
 ghost use Rattle.stretch.specs.Spread.{Shapes, extentsIn, Smaller, valuesOn, spreadOver};
-
-// Where the extents of a record begin.
-const EXTENTS: usize = 3;
+use records::EXTENTS;
 
 // The smaller of two numbers.
 pub fn smaller(a: usize, b: usize) -> usize
