@@ -16,6 +16,7 @@ use Rattle.rules.specs.Record.{blockAt}
 use Rattle.rules.specs.Concatenate.{Block, blockOf}
 use Rattle.rules.proofs.Same.{true-not-false, both-true}
 use Rattle.rules.proofs.Ranges.{map-at}
+use Rattle.rules.proofs.Gathering.{gather-append}
 use Rattle.rules.proofs.Merging.{sorted-left, merge-length-left}
 use Rattle.tables.specs.Tables.{tableAt, roomEnd, Only}
 use Rattle.tables.proofs.Only.{only-same, only-then, only-wider, only-set}
@@ -25,8 +26,7 @@ use Rattle.parts.specs.Parts.{windowSize, spare}
 use Rattle.lists.specs.Places.{standing, Inside}
 use Rattle.lists.specs.Starts.{blocksAt}
 use Rattle.lists.proofs.Beginning.{length-standing, lent-at, place-inside, place-fits}
-use Rattle.stretch.proofs.InTurn.{gather-append}
-use Rattle.stretch.proofs.Depending.{start-ready}
+use Rattle.lowering.proofs.Listing.{cleared-ready}
 use Rattle.entries.specs.declared.entries.Listed.{Listed}
 use Rattle.entries.specs.Listing.{axesIn}
 use Rattle.entries.specs.Merging.{smallTo, Tabled, TargetReady, MergedMore, entriesOf, joined, BlockAsked, AllAsked, blocksOf}
@@ -88,7 +88,7 @@ module _ {x : Listed} {r w n : ℕ} {places : List ℕ} {starts : List (List ℕ
       record {
         asked = a;
         upto = omega arith;
-        target = record { ready = start-ready old room e; before = q .0; narrow = q .1; room = rw (o .size) (q .2) };
+        target = record { ready = cleared-ready old e room; before = q .0; narrow = q .1; room = rw (o .size) (q .2) };
         small = refl;
         table = rw e (emptied at w old room);
         only = only-same at windowSize s;

@@ -18,12 +18,12 @@ use Rattle.rules.proofs.Same.{true-not-false}
 use Rattle.cells.specs.View.{view}
 use Rattle.tables.specs.Rows.{rowAt}
 use Rattle.tables.specs.Tables.{tableAt, roomEnd, Put}
+use Rattle.tables.proofs.Rows.{front-row}
 use Rattle.tables.proofs.Only.{only-same, only-then, only-wider, only-set}
 use Rattle.tables.proofs.Passing.{Passed, none-passed, one-more, one-fails, all-passed}
 use Rattle.lowering.specs.Lowering.{Taken}
 use Rattle.lowering.proofs.Taking.{taken-none, taken-all, taken-next, taken-over}
-use Rattle.stretch.proofs.Fitting.{front-row}
-use Rattle.stretch.proofs.Depending.{start-ready, taken-filled}
+use Rattle.lowering.proofs.Listing.{cleared-ready, cleared-listed}
 use Rattle.entries.specs.declared.entries.Listed.{Listed}
 use Rattle.entries.specs.Listing.{listed, movedList, axesIn, ListAsked, StartLow, EntryIs}
 use Rattle.entries.specs.Merging.{smallTo, SmallAsked, PutSmall, TableAsked, Tabled}
@@ -94,7 +94,7 @@ module _ {x : Listed} {h : Head} {src : List ℤ} {start : List ℕ} {r w to : �
     axes = m;
     size = c;
     small = none-passed (rw length-map (sym c));
-    taken = taken-none (start-ready old (a .room) e);
+    taken = taken-none (cleared-ready old e (a .room));
   }
 
 module _ {x : Listed} {h : Head} {src : List ℤ} {start : List ℕ} {r w to count n i : ℕ} {s t : List ℤ} (g : Tabling x h src start r w to count n i s t) where
@@ -142,7 +142,7 @@ module _ {x : Listed} {h : Head} {src : List ℤ} {start : List ℕ} {r w to cou
 
             by : (v : Bool) → smallTo n (getD moved i []) ≡ v → Tabled to w n (roomEnd to w) moved old u false
             by true k =
-                let q = taken-filled old (a .room) e (taken-over i moved (g .taken) inside f (is .low) (put .put k)) in
+                let q = cleared-listed old e (a .room) (taken-over i moved (g .taken) inside f (is .low) (put .put k)) in
                 record { verdict = either-fails (all (smallTo n) moved) (few (sorted moved)) (sym (q .verdict)); table = none; ready = λ z. absurd (true-not-false z refl); only = q .only }
             by false k =
                 record {
@@ -155,5 +155,5 @@ module _ {x : Listed} {h : Head} {src : List ℤ} {start : List ℕ} {r w to cou
   pub table-done : count ≤ i → {old : List ℤ} → TableAsked x h src start r w to old → s ≡ set old to (pos 0) → Tabled to w (axesIn x r w) (roomEnd to w) moved old t true
   table-done o {old} a e =
       let all-there : length moved ≤ i = omega (arith, g .small .size) in
-      let q = taken-filled old (a .room) e (taken-all i moved (g .taken) all-there) in
+      let q = cleared-listed old e (a .room) (taken-all i moved (g .taken) all-there) in
       rw (← g .axes) (record { verdict = rw (← all-passed (g .small) o) (q .verdict); table = q .table; ready = q .ready; only = q .only })

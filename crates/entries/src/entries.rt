@@ -59,7 +59,7 @@ fn dep_of(from: &[i32], deps: Entries, old: usize, rank: usize, i: usize) -> [i3
     requires { ⌜ DepAsked deps old rank i (now from) ⌝ }
     ensures { λ r. ⌜ rowAt 0 (rank + 1) r ≡ onIndex (fitTo rank 0) (rowAt (deps .first + i * (old + 1)) (old + 1) (now (from .entry))) ⌝ }
 {
-    stretch::fitted(from, deps.first + i * (old + 1), old, rank)
+    moving::fitted(from, deps.first + i * (old + 1), old, rank)
 }
 
 // How many entries a list of a block has.

@@ -1,5 +1,5 @@
 -- Laws by subject: what a record shows of its layout (Shown), sections of a part (Sections, Heads), rows whose numbers are picked (Picking),
--- rows cut short so (Shortening), tables of them (Filling, Deps).
+-- rows cut short so (Shortening), tables of them (Filling, Deps), rows and dependencies fitted to another length (Fitting).
 pub mod Shown
 pub mod Sections
 pub mod Heads
@@ -7,3 +7,4 @@ pub mod Picking
 pub mod Shortening
 pub mod Filling
 pub mod Deps
+pub mod Fitting

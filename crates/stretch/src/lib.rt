@@ -17,7 +17,6 @@ ghost use Rattle.records.specs.Sound.{SoundRecord};
 ghost use Rattle.parts.specs.Parts.{partSize};
 ghost use Rattle.parts.specs.Answers.{Says};
 ghost use Rattle.stretch.specs.Layouts.{StretchAsked, FillAsked, TablesMade};
-pub use deps::fitted;
 use deps::stretch_deps;
 use rows::stretch_rows;
 use rules::Head;
