@@ -13,6 +13,7 @@
 --     Given                                                        that what they give is sound
 --     StretchedHolds, Full, IntersectHolds, ContractedHolds,
 --     PermutedHolds                                                what is held then
+--     Agreeing                                                     the common shape of shapes, by plain cases
 --     Giving, Unchanged, Folding, BroadcastEnds, BroadcastHolds    a broadcast: what is stretched, folded in order, its end, and what it holds
 --     Calls                                                        what calls answer of sound records
 --     Piled, PiledPairs, Summing, ExchangeMade, ExchangeKeeps,
@@ -86,6 +87,7 @@ pub mod RecordPiles
 pub mod PileByHand
 pub mod ContractedHolds
 pub mod PermutedHolds
+pub mod Agreeing
 pub mod Giving
 pub mod Unchanged
 pub mod Folding
