@@ -14,7 +14,7 @@ pub fn kind(s: &[i32]) -> usize
     requires { ⌜ sound (now s) ≡ true ⌝ }
     ensures { λ r. ⌜ r ≡ layoutIn (now (s .entry)) .kind ⌝ }
 {
-    shapes::natural_at(s, 0)
+    shapes::natural_at(s, records::KIND)
 }
 
 // How many dense axes it has.
@@ -22,7 +22,7 @@ pub fn dense_axes(s: &[i32]) -> usize
     requires { ⌜ sound (now s) ≡ true ⌝ }
     ensures { λ r. ⌜ (r ≡ layoutIn (now (s .entry)) .dense) × (r ≤ rankLimit) ⌝ }
 {
-    shapes::natural_at(s, 1)
+    shapes::natural_at(s, records::DENSE)
 }
 
 // How many axes it has.
@@ -30,7 +30,7 @@ pub fn rank(s: &[i32]) -> usize
     requires { ⌜ sound (now s) ≡ true ⌝ }
     ensures { λ r. ⌜ (r ≡ rank (layoutIn (now (s .entry)))) × (r ≤ rankLimit) ⌝ }
 {
-    shapes::natural_at(s, 2)
+    shapes::natural_at(s, records::RANK)
 }
 
 // The extent of an axis, or what a missing axis counts.
@@ -40,7 +40,7 @@ pub fn extent(s: &[i32], axis: usize, missing: usize) -> usize
     ensures { λ r. ⌜ (r ≡ getD (layoutIn (now (s .entry)) .shape) axis missing) × (r ≤ productLimit) ⌝ }
 {
     if axis < rank(s) {
-        return shapes::natural_at(s, axis + 3);
+        return shapes::natural_at(s, axis + records::EXTENTS);
     }
     missing
 }

@@ -16,6 +16,7 @@ use Rattle.rules.specs.Record.{blockAt}
 use Rattle.rules.specs.Concatenate.{Block, blockOf}
 use Rattle.rules.proofs.Same.{true-not-false, both-true}
 use Rattle.rules.proofs.Ranges.{map-at}
+use Rattle.rules.proofs.Gathering.{gather-append}
 use Rattle.rules.proofs.Merging.{sorted-left, merge-length-left}
 use Rattle.rules.proofs.Tests.{all-append}
 use Rattle.tables.specs.Tables.{tableAt, roomEnd, Only}
@@ -27,7 +28,6 @@ use Rattle.parts.specs.Parts.{windowSize, spare}
 use Rattle.lists.specs.Places.{standing, Inside}
 use Rattle.lists.specs.Starts.{blocksAt}
 use Rattle.lists.proofs.Beginning.{length-standing, lent-at, place-inside, place-fits}
-use Rattle.stretch.proofs.InTurn.{gather-append}
 use Rattle.entries.specs.declared.entries.Listed.{Listed}
 use Rattle.entries.specs.Listing.{axesIn}
 use Rattle.entries.specs.Merging.{smallTo, Tabled, TargetReady, MergedMore, entriesOf, joined, BlockAsked, AllAsked, blocksOf}

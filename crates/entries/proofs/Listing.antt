@@ -35,7 +35,7 @@ use Rattle.records.proofs.SoundRecords.{lies, layout-sound, layout-shown}
 use Rattle.records.proofs.Shown.{record-shape, rank-shown, width-shown}
 use Rattle.lookups.proofs.SoundRecords.{record-extents}
 use Rattle.lookups.proofs.Counting.{kind-read, kind-sparse}
-use Rattle.stretch.specs.Tables.{FitAsked}
+use Rattle.moving.specs.Fitting.{FitAsked}
 use Rattle.entries.specs.declared.entries.Listed.{Listed}
 use Rattle.entries.specs.declared.entries.Listed.the-variants.{Rows, States, Inputs}
 use Rattle.entries.specs.Listing.{fitted, listed, rowWidth, ListAsked, DepAsked}

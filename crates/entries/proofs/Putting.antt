@@ -18,10 +18,10 @@ use Rattle.rules.proofs.Same.{true-not-false}
 use Rattle.cells.specs.View.{view}
 use Rattle.tables.specs.Rows.{rowAt}
 use Rattle.tables.specs.Tables.{tableAt, roomEnd, Put, Taken}
+use Rattle.tables.proofs.Rows.{front-row}
 use Rattle.tables.proofs.Only.{only-same, only-then, only-wider, only-set}
 use Rattle.tables.proofs.Passing.{Passed, none-passed, one-more, one-fails, all-passed}
 use Rattle.tables.proofs.Taking.{taken-none, taken-all, taken-next, taken-over, cleared-ready, cleared-listed}
-use Rattle.stretch.proofs.Fitting.{front-row}
 use Rattle.entries.specs.declared.entries.Listed.{Listed}
 use Rattle.entries.specs.Listing.{listed, movedList, axesIn, ListAsked, StartLow, EntryIs}
 use Rattle.entries.specs.Merging.{smallTo, SmallAsked, PutSmall, TableAsked, Tabled}

@@ -40,10 +40,10 @@ fn row_of(from: &[i32], head: Head, i: usize) -> [i32; 5]
     requires { ⌜ i < length (rowsOfBlock (layoutIn (now from))) ⌝ }
     ensures { λ r. ⌜ rowAt 0 (rowWidth (layoutIn (now (from .entry)))) r ≡ getD (rowsOfBlock (layoutIn (now (from .entry)))) i [] ⌝ }
 {
-    let kind = cells::get(from, 0);
+    let kind = cells::get(from, records::KIND);
     if kind == 0 {
         let mut index = [0i32; 5];
-        axes::unravel_into(i, from, 3, head.rank, &mut index, 0);
+        axes::unravel_into(i, from, records::EXTENTS, head.rank, &mut index, 0);
         return index;
     }
     if kind == 1 {
@@ -59,7 +59,7 @@ fn dep_of(from: &[i32], deps: Entries, old: usize, rank: usize, i: usize) -> [i3
     requires { ⌜ DepAsked deps old rank i (now from) ⌝ }
     ensures { λ r. ⌜ rowAt 0 (rank + 1) r ≡ onIndex (fitTo rank 0) (rowAt (deps .first + i * (old + 1)) (old + 1) (now (from .entry))) ⌝ }
 {
-    stretch::fitted(from, deps.first + i * (old + 1), old, rank)
+    moving::fitted(from, deps.first + i * (old + 1), old, rank)
 }
 
 // How many entries a list of a block has.

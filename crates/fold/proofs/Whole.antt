@@ -31,9 +31,10 @@ use Rattle.parts.specs.Parts.{left, right, layoutAt, Holds}
 use Rattle.parts.specs.Answers.{Says}
 use Rattle.parts.proofs.Lent.{lentOf, backIn, back-says, lent-part-layout, lent-part-holds}
 use Rattle.lists.specs.Places.{EachAt}
+use Rattle.lists.specs.Asked.{RankFew}
 use Rattle.lists.specs.Records.{JudgedRecord, layoutsAt}
 use Rattle.fold.specs.declared.agreeing.Shape.{Shape}
-use Rattle.fold.specs.Stretched.{extentsOf, ShapeFits, ShapeIs, RankFew, commonOf, AllAsked, AllBringable, allStretched, told, whether}
+use Rattle.fold.specs.Stretched.{extentsOf, ShapeFits, ShapeIs, commonOf, AllAsked, AllBringable, allStretched, told, whether}
 use Rattle.fold.specs.Folded.{broadcastTo}
 use Rattle.rules.proofs.Giving.{Giving, given-such}
 use Rattle.rules.proofs.Replaced.{fit-length, fit-low}
@@ -165,12 +166,3 @@ module _ {n : ℕ} {places : List ℕ} {s : List ℤ} (k : EachAt JudgedRecord n
       pub whole-said : {w : List ℤ} {step : Step} → Says (broadcastTo (extentsOf shape) (layoutsAt n places s) rule) left w step → Says all left w step
       unfolding broadcast broadcastTo
       whole-said d = rw (common .1, ← extents-are) d
-
--- ---- the rank of the common shape
-
--- none where it is refused
-pub refused-few : {n m : ℕ} {r : Tuple} → TupleIs (refused m) r → RankFew n r
-refused-few t k e = absurd (never (sym (rw e at (t .count))))
-
-pub given-few : {n m : ℕ} (four : List ℕ) → m ≤ 4 → 0 < n → RankFew n (record { count = Is m; numbers = four })
-given-few {m} four h some k e = let same : m ≡ k = cc in (omega arith, some)

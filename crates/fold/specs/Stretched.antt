@@ -4,10 +4,8 @@ use mathlib.Core.List.{List, [], map}
 use Prim.Native.Nat.{ℕ, _<_, _≤_}
 use lib.IntN.{ℤ, pos}
 use lib.ListN.{getD}
-use Rattle.rules.specs.declared.Number.the-variants.{Is}
 use Rattle.rules.specs.declared.Step.{Step}
 use Rattle.rules.specs.declared.Step.the-variants.{Done, Refused}
-use Rattle.rules.specs.declared.Tuple.{Tuple}
 use Rattle.rules.specs.Refusals.{Verdict, given, refused, inForm, numberOf}
 use Rattle.rules.specs.Layout.{Layout}
 use Rattle.rules.specs.Record.{layoutIn}
@@ -35,10 +33,6 @@ pub record ShapeFits (shape : Shape) : Type 0 where
 pub record ShapeIs (rank : ℕ) (four : List ℕ) (shape : Shape) : Type 0 where
   pub rank-is : shape .rank ≡ rank
   pub extents-are : shape .extents ≡ map pos four
-
--- a shape by value that is given has at most 4 extents, and is that of some records
-abbrev pub RankFew : ℕ → Tuple → Type 0
-RankFew n r = (k : ℕ) → r .count ≡ Is k → (k ≤ 4) × (0 < n)
 
 -- the common shape of the records at the first n places
 abbrev pub commonOf : ℕ → List ℕ → List ℤ → Verdict (List ℕ)

@@ -1,12 +1,10 @@
 // The common shape of the records of a list.
-ghost use Rattle.rules.specs.Refusals.{refused, numberOf};
 ghost use Rattle.rules.specs.Endings.{TupleIs};
 ghost use Rattle.cells.specs.View.{Low};
 ghost use Rattle.lists.specs.Places.{EachAt};
+ghost use Rattle.lists.specs.Asked.{RankFew};
 ghost use Rattle.lists.specs.Records.{JudgedRecord};
-ghost use Rattle.fold.specs.Stretched.{commonOf, RankFew, ShapeIs};
-use rules::Number;
-use rules::Refusal;
+ghost use Rattle.fold.specs.Stretched.{commonOf, ShapeIs};
 use rules::Tuple;
 
 // A shape as slices hold it: how many extents it has, and these, with zeros behind them.
@@ -15,38 +13,14 @@ pub struct Shape {
     pub extents: [i32; 4],
 }
 
-// No shape, and why.
-fn no_shape(why: Refusal) -> Tuple
-    ensures { λ r. ⌜ TupleIs (refused (numberOf why)) r ⌝ }
-{
-    Tuple {
-        count: Number::Refused(why),
-        numbers: [0; 4],
-    }
-}
-
 // The common shape of n records: 6 where they do not agree or there are none, 13 where it passes the limit.
 pub fn common_shape(layouts: &[i32], places: [usize; 16], n: usize) -> Tuple
     requires { ⌜ EachAt JudgedRecord n places (now layouts) ⌝ }
     ensures is { λ r. ⌜ TupleIs (commonOf n places (now (layouts .entry))) r ⌝ }
     ensures few { λ r. ⌜ RankFew n r ⌝ }
 {
-    let shapes = lists::moved(layouts, places, n, 2);
-    if n == 0 {
-        return no_shape(Refusal::ShapesDisagree);
-    }
-    if !lists::shapes_agree(layouts, shapes, n) {
-        return no_shape(Refusal::ShapesDisagree);
-    }
-    let axes = lists::longest(layouts, shapes, n);
-    let numbers = lists::common_shape(layouts, shapes, n);
-    if !shapes::within_product(numbers) {
-        return no_shape(Refusal::MadeTooLarge);
-    }
-    Tuple {
-        count: Number::Is(axes),
-        numbers,
-    }
+    let shapes = lists::moved(layouts, places, n, records::RANK);
+    lists::agreed_shape(layouts, shapes, n)
 }
 
 // A shape by value, as slices hold it.

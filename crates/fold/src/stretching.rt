@@ -17,9 +17,6 @@ use rules::Refusal;
 use rules::Step;
 use rules::Walk;
 
-// Where the extents of a record begin.
-const EXTENTS: usize = 3;
-
 // Whether a record has the shape already.
 fn has_shape(from: &[i32], head: Head, shape: Shape) -> bool
     requires { ⌜ SoundRecord head (now from) × ShapeFits shape ⌝ }
@@ -29,7 +26,7 @@ fn has_shape(from: &[i32], head: Head, shape: Shape) -> bool
         return false;
     }
     let extents = shape.extents;
-    tables::same_numbers(from, EXTENTS, &extents, 0, shape.rank)
+    tables::same_numbers(from, records::EXTENTS, &extents, 0, shape.rank)
 }
 
 // Whether the record may be stretched to the shape; one that has it already may, and nothing is done for it.

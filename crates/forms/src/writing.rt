@@ -12,6 +12,7 @@ ghost use Rattle.rules.specs.CountsAndForms.{toDense, toDataLayout, dense, newE
 ghost use Rattle.shapes.specs.Judged.{Judged};
 ghost use Rattle.records.specs.Sound.{SoundRecord};
 ghost use Rattle.forms.specs.Pieces.{pieces, PiecesFit, noDeps};
+use records::EXTENTS;
 use rules::Head;
 use rules::Refusal;
 use rules::Written;
@@ -31,10 +32,10 @@ pub fn write_record(
 {
     let rank = extents.len();
     let first = [cells::whole(kind), cells::whole(dense), cells::whole(rank)];
-    let at = 3 + rank;
+    let at = EXTENTS + rank;
     let next = at + 1 + rows.len();
     cells::copy(&first, result);
-    cells::copy_into(extents, result, 3);
+    cells::copy_into(extents, result, EXTENTS);
     cells::store(result, at, count);
     cells::copy_into(rows, result, at + 1);
     cells::copy_into(deps, result, next);
@@ -59,10 +60,10 @@ pub fn to_dense(s: &[i32], head: Head, result: &mut [i32]) -> Written
     let rows = head.rows;
     let inputs = head.inputs;
     let rank = head.rank;
-    let end = 3 + rank;
+    let end = EXTENTS + rank;
     let from = rows.next;
     let to = inputs.next;
-    write_record(result, 0, rank, &s[3..end], 0, &s[3..3], &s[from..to])
+    write_record(result, 0, rank, &s[EXTENTS..end], 0, &s[..0], &s[from..to])
 }
 
 // The numbers of the rows are written, of a sparse record alone.

@@ -6,7 +6,7 @@ use Prim.Native.Nat.{ℕ}
 use native.Mathlib.Omega.{arith}
 use borrow.Author.Tests.{not-false}
 use lib.IntN.{ℤ}
-use lib.ListN.{length, drop}
+use lib.ListN.{length}
 use Rattle.rules.specs.declared.Refusal.{Refusal}
 use Rattle.rules.specs.declared.Refusal.the-variants.{Unsound}
 use Rattle.rules.specs.declared.Rule.{Rule}
@@ -19,7 +19,7 @@ use Rattle.rules.specs.Buffers.{over, zeros}
 use Rattle.rules.specs.Refusals.{Verdict, inForm, numberOf, Reason, _when_, _then_, lowest}
 use Rattle.rules.specs.Layout.{Layout, encode}
 use Rattle.rules.specs.Record.{endToEnd, behindRecord, listCount, recordsIn, layoutIn, sound}
-use Rattle.rules.specs.Arguments.{overCount, overShape, overRecord}
+use Rattle.rules.specs.Arguments.{overCount, overRecord}
 use Rattle.rules.specs.Endings.{Ends}
 use Rattle.rules.specs.Broadcast.{ruleOf, broadcast}
 use Rattle.rules.proofs.BroadcastRefused.{broadcast-refusing}
@@ -29,11 +29,8 @@ use Rattle.parts.specs.Answers.{Says, Finished}
 use Rattle.parts.proofs.Ending.{AboveTwo, Late}
 use Rattle.parts.proofs.Lent.{lentOf, backIn, back-says}
 use Rattle.parts.proofs.Windows.{window-only}
-use Rattle.lists.specs.declared.asks.Ask.the-variants.{FewAxes}
 use Rattle.lists.specs.Places.{standing, EachAt, PlacesOf}
-use Rattle.lists.specs.Asked.{asked}
 use Rattle.lists.specs.Records.{JudgedRecord, layoutsAt}
-use Rattle.lists.proofs.Asking.{any-all, over-records}
 use Rattle.judging.specs.declared.Sizes.{Sizes}
 use Rattle.judging.specs.declared.Sizes.the-variants.{Kept, Refused}
 use Rattle.judging.specs.LentSizes.{sizeReasons, SizesKept, SizesAre}
@@ -42,12 +39,6 @@ use Rattle.judging.proofs.LentSizes.{kept-told, refused-told, told-either}
 use Rattle.judging.proofs.Endings.{ends-early, ends-late, ends-done}
 
 -- ---- the records of a list
-
--- one is over if not all have few axes, where their shapes stand
-pub over-moved : (n : ℕ) (places : List ℕ) (s : List ℤ) {shapes : List ℕ} → PlacesOf (map (drop 2) (standing n places s)) n s shapes → {b : Bool} →
-    b ≡ all (asked FewAxes) (standing n shapes s) → not b ≡ any overRecord (standing n places s)
-over-moved n places s {shapes} m e =
-    ap not e ∙ sym (any-all overShape (standing n shapes s)) ∙ ap (any overShape) (m .begin) ∙ over-records (standing n places s)
 
 -- the records at n places are those of the list
 module _ (count : ℤ) (s : List ℤ) {n : ℕ} {places : List ℕ} (e : n ≡ listCount count) (p : PlacesOf (endToEnd behindRecord n s) n s places) where

@@ -15,13 +15,13 @@ use Rattle.rules.specs.declared.Refusal.the-variants.{Unsound, WrongArgument}
 use Rattle.rules.specs.declared.Step.{Step}
 use Rattle.rules.specs.declared.Written.{Written}
 use Rattle.rules.specs.declared.Written.the-variants.{Refused as NotWritten}
-use Rattle.rules.specs.Limits.{rankLimit, listLimit, workSize}
+use Rattle.rules.specs.Limits.{rankLimit, workSize}
 use Rattle.rules.specs.Lists.{if, all, any}
 use Rattle.rules.specs.Buffers.{over, zeros}
 use Rattle.rules.specs.Refusals.{Verdict, inForm, numberOf, Reason, _when_, _then_, lowest}
 use Rattle.rules.specs.Layout.{Layout, encode}
 use Rattle.rules.specs.Record.{natural, endToEnd, behindBlock, behindRecord, walk, sectionAt, entriesFrom, listCount, RawBlock, blockAt, blocksIn, sound}
-use Rattle.rules.specs.Arguments.{overCount, overRank, overRecord, overShape}
+use Rattle.rules.specs.Arguments.{overCount, overRank, overRecord}
 use Rattle.rules.specs.Endings.{Ends}
 use Rattle.rules.specs.Concatenate.{goodBlock, blockOf, concatenate}
 use Rattle.rules.proofs.Same.{neither, both-true}
@@ -32,13 +32,13 @@ use Rattle.parts.specs.Answers.{Says, Finished}
 use Rattle.parts.proofs.Ending.{AboveTwo}
 use Rattle.parts.proofs.Lent.{lentOf, backIn}
 use Rattle.parts.proofs.Windows.{window-only, window-says}
-use Rattle.lists.specs.declared.asks.Ask.the-variants.{FewAxes, GoodBlock}
+use Rattle.lists.specs.declared.asks.Ask.the-variants.{GoodBlock}
 use Rattle.lists.specs.declared.walking.Thing.the-variants.{Block}
 use Rattle.lists.specs.Places.{behindThing, standing, EachAt, PlacesOf}
 use Rattle.lists.specs.Starts.{blocksAt, startsIn, StartsOf}
 use Rattle.lists.specs.Asked.{asked}
 use Rattle.lists.specs.Records.{JudgedRecord}
-use Rattle.lists.proofs.Asking.{any-all, over-records, over-blocks, sound-blocks, good-blocks, count-few}
+use Rattle.lists.proofs.Asking.{over-blocks, sound-blocks, good-blocks}
 use Rattle.judging.specs.declared.Sizes.{Sizes}
 use Rattle.judging.specs.declared.Sizes.the-variants.{Kept, Refused}
 use Rattle.judging.specs.LentSizes.{sizeReasons, SizesKept, SizesRefused, SizesAre}
@@ -49,12 +49,6 @@ use Rattle.entries.specs.Merging.{blocksOf}
 use Rattle.join.specs.Assembling.{JoinAsked}
 
 -- ---- the records of a list
-
--- one is over if not all have few axes, where their shapes stand
-pub over-moved : (n : ℕ) (places : List ℕ) (s : List ℤ) {shapes : List ℕ} → PlacesOf (map (drop 2) (standing n places s)) n s shapes → {b : Bool} →
-    b ≡ all (asked FewAxes) (standing n shapes s) → not b ≡ any overRecord (standing n places s)
-over-moved n places s {shapes} m e =
-    ap not e ∙ sym (any-all overShape (standing n shapes s)) ∙ ap (any overShape) (m .begin) ∙ over-records (standing n places s)
 
 -- a count, a rank, and then the records
 pub either-three : {a b c d e : Bool} (x y z : Bool) → a ≡ x → b ≡ y → c ≡ a || b → d ≡ z → e ≡ c || d → e ≡ x || y || z
@@ -147,9 +141,6 @@ module _ (count rank : ℤ) (s : List ℤ) {n axes end : ℕ} (n-is : n ≡ list
     }
 
 -- ---- the call
-
-pub few-listed : (n : ℤ) {m : ℕ} → m ≡ listCount n → m ≤ listLimit
-few-listed n e = rw e (count-few n)
 
 module _ (s : List ℤ) (count rank : ℤ) (result work : List ℤ) where
   abbrev blocks : List RawBlock

@@ -1,15 +1,11 @@
 // Module 12, `broadcast`: layouts stretched to their common shape and folded by an operator.
 ghost use mathlib.Core.Path.{_≡_};
 ghost use lib.ListN.{length};
-ghost use Rattle.rules.specs.Lists.{any};
 ghost use Rattle.rules.specs.Refusals.{inForm};
-ghost use Rattle.rules.specs.Arguments.{overRecord};
 ghost use Rattle.rules.specs.Layout.{encode};
 ghost use Rattle.rules.specs.Endings.{Ends};
 ghost use Rattle.rules.specs.Broadcast.{ruleOf, broadcastCall};
-ghost use Rattle.lists.specs.Places.{standing, Inside};
 use judging::Sizes;
-use lists::Ask;
 use lists::Thing;
 use rules::Refusal;
 use rules::Rule;
@@ -26,15 +22,6 @@ fn rule_of(operator: u8) -> Rule
     }
 }
 
-// Whether one of n records has more than 4 axes.
-fn over_axes(layouts: &[i32], places: [usize; 16], n: usize) -> bool
-    requires { ⌜ Inside n places (now layouts) ⌝ }
-    ensures { λ r. ⌜ r ≡ any overRecord (standing n places (now (layouts .entry))) ⌝ }
-{
-    let shapes = lists::moved(layouts, places, n, 2);
-    !lists::all_pass(Ask::FewAxes, layouts, shapes, n)
-}
-
 // As many records as `count` says, end to end, are stretched to their common shape and folded by an operator; what comes out goes to
 // the result.
 pub fn broadcast(
@@ -48,7 +35,10 @@ pub fn broadcast(
 {
     let n = shapes::list_count(count);
     let places = lists::places(Thing::Record, layouts, n);
-    let over = judging::either(shapes::over_count(count), over_axes(layouts, places, n));
+    let over = judging::either(
+        shapes::over_count(count),
+        lists::over_axes(layouts, places, n),
+    );
     if let Sizes::Refused(why) = judging::judge_sizes(over, result.len(), work.len()) {
         return Written::Refused(why);
     }

@@ -40,22 +40,13 @@ fn walkable(blocks: &[i32], rank: i32) -> usize
     }
 }
 
-// Whether one of n records has more than 4 axes.
-fn over_axes(list: &[i32], records: [usize; 16], n: usize) -> bool
-    requires { ⌜ Inside n records (now list) ⌝ }
-    ensures { λ r. ⌜ r ≡ any overRecord (standing n records (now (list .entry))) ⌝ }
-{
-    let shapes = lists::moved(list, records, n, 2);
-    !lists::all_pass(Ask::FewAxes, list, shapes, n)
-}
-
 // Whether the count, the asked rank or the axes of one of n records are over their limits.
 fn over_blocks(list: &[i32], records: [usize; 16], n: usize, count: i32, rank: i32) -> bool
     requires { ⌜ Inside n records (now list) ⌝ }
     ensures { λ r. ⌜ r ≡ (overCount count || overRank rank || any overRecord (standing n records (now (list .entry)))) ⌝ }
 {
     let numbers = judging::either(shapes::over_count(count), judging::over_rank(rank));
-    judging::either(numbers, over_axes(list, records, n))
+    judging::either(numbers, lists::over_axes(list, records, n))
 }
 
 // Whether the asked rank is negative, or the start or the flag of one of n blocks is wrong.

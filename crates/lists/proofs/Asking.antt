@@ -18,8 +18,8 @@ use Rattle.rules.specs.Concatenate.{goodBlock}
 use Rattle.tables.proofs.Passing.{Passed, none-passed, one-more, one-fails, all-passed}
 use Rattle.shapes.specs.Judged.{Judged}
 use Rattle.lists.specs.declared.asks.Ask.{Ask}
-use Rattle.lists.specs.declared.asks.Ask.the-variants.{FewAxes, GoodShape, Sound, GoodBlock, Agrees}
-use Rattle.lists.specs.Places.{standing, Inside, EachAt}
+use Rattle.lists.specs.declared.asks.Ask.the-variants.{FewAxes, GoodShape, GoodBlock, Agrees}
+use Rattle.lists.specs.Places.{standing, Inside, EachAt, PlacesOf}
 use Rattle.lists.specs.Asked.{asked, Askable}
 use Rattle.lists.proofs.Beginning.{length-standing, lent-at, place-inside, place-fits, known-at}
 
@@ -41,9 +41,6 @@ module _ {ask : Ask} (s : List ℤ) {b : Bool} where
   pub good-asked : ask ≡ GoodShape → b ≡ goodShape s → b ≡ asked ask s
   good-asked e f = f ∙ rw e
 
-  pub sound-asked : ask ≡ Sound → b ≡ sound s → b ≡ asked ask s
-  sound-asked e f = f ∙ rw e
-
   pub block-asked : {rank : ℕ} → ask ≡ GoodBlock rank → b ≡ goodBlock (blockAt rank s) → b ≡ asked ask s
   block-asked e f = f ∙ rw e
 
@@ -54,7 +51,7 @@ module _ {ask : Ask} (s : List ℤ) {b : Bool} where
 pub axis-judged : {ask : Ask} {axis common : ℕ} {s : List ℤ} → ask ≡ Agrees axis common → Askable ask s → Judged s
 axis-judged e j = rw e at j
 
-pub ruleset asked-laws = (few-asked, good-asked, sound-asked, block-asked, axis-asked, axis-judged)
+pub ruleset asked-laws = (few-asked, good-asked, block-asked, axis-asked, axis-judged)
 
 -- ---- the things at n places
 
@@ -104,6 +101,12 @@ pub over-records : (l : List (List ℤ)) → any overShape (map (drop 2) l) ≡ 
 unfolding any
 over-records [] = refl
 over-records (s ∷ l) = rw (getD-drop 2 s 0 (pos 0), over-records l)
+
+-- one is over if not all have few axes, where their shapes stand
+pub over-moved : (n : ℕ) (places : List ℕ) (s : List ℤ) {shapes : List ℕ} → PlacesOf (map (drop 2) (standing n places s)) n s shapes → {b : Bool} →
+    b ≡ all (asked FewAxes) (standing n shapes s) → not b ≡ any overRecord (standing n places s)
+over-moved n places s {shapes} m e =
+    ap not e ∙ sym (any-all overShape (standing n shapes s)) ∙ ap (any overShape) (m .begin) ∙ over-records (standing n places s)
 
 -- the records of blocks stand behind their starts and flags
 module _ (rank : ℕ) (l : List (List ℤ)) where

@@ -2,7 +2,9 @@
 use mathlib.Core.Path.{_≡_, refl, sym, ap, _∙_}
 use mathlib.Core.Bool.{Bool}
 use mathlib.Core.List.{List, [], _∷_, map}
-use Prim.Native.Nat.{ℕ, _≤_}
+use Prim.Native.Nat.{ℕ, suc, _<_, _≤_}
+use native.Mathlib.Omega.{arith}
+use borrow.Author.Tests.{ne-eqb}
 use lib.Dec.{eqb}
 use lib.IntN.{ℤ}
 use lib.ListN.{length, length-map}
@@ -17,9 +19,10 @@ use Rattle.rules.specs.Refusals.{Verdict, given, refused, numberOf}
 use Rattle.rules.specs.Shapes.{commonShape}
 use Rattle.rules.specs.Endings.{TupleIs}
 use Rattle.rules.proofs.Tests.{none-counted}
+use Rattle.rules.proofs.Unions.{never}
 use Rattle.shapes.proofs.Fitting.{within-fit}
 use Rattle.lists.specs.Places.{standing, Inside}
-use Rattle.lists.specs.Asked.{shapesAt}
+use Rattle.lists.specs.Asked.{shapesAt, RankFew}
 use Rattle.lists.proofs.Beginning.{length-standing}
 use Rattle.lists.proofs.Common.{length-common}
 
@@ -55,3 +58,13 @@ common-within shapes e h f g =
 -- as many axes as the longest shape has
 pub common-length : (shapes : List (List ℕ)) {n : ℕ} → n ≡ largest (map length shapes) → n ≡ length (commonShape shapes)
 common-length shapes e = e ∙ sym (length-common shapes)
+
+-- ---- its rank
+
+-- none where it is refused
+pub refused-few : {n m : ℕ} {r : Tuple} → TupleIs (refused m) r → RankFew n r
+refused-few t k e = absurd (never (sym (rw e at (t .count))))
+
+-- at most 4 where it is given, of some shapes
+pub given-few : {n m : ℕ} (four : List ℕ) → m ≤ 4 → 0 < n → RankFew n (record { count = Is m; numbers = four })
+given-few {m} four h some k e = let same : m ≡ k = cc in (omega arith, some)

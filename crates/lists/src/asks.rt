@@ -14,8 +14,6 @@ pub enum Ask {
     FewAxes,
     // Whether the shape obeys the extent rules.
     GoodShape,
-    // Whether the record is sound.
-    Sound,
     // Whether the start and the flag of a block of the asked rank are good.
     GoodBlock(usize),
     // Whether the extent of an axis is 1 or the common one.
@@ -52,7 +50,6 @@ fn passes(ask: Ask, s: &[i32]) -> bool
     match ask {
         Ask::FewAxes => !shapes::over_shape(s),
         Ask::GoodShape => shapes::good_shape(s),
-        Ask::Sound => records::sound(s),
         Ask::GoodBlock(rank) => good_block(s, rank),
         Ask::Agrees(axis, common) => extent_agrees(shapes::extent(s, axis), common),
     }

@@ -1,10 +1,23 @@
-// Whether the records of a list are sound.
+// What is judged of the records of a list: whether one has too many axes, and whether all are sound.
 ghost use mathlib.Core.Path.{_≡_};
 ghost use mathlib.Core.Bool.{true};
-ghost use Rattle.rules.specs.Lists.{all};
+ghost use Rattle.rules.specs.Lists.{all, any};
 ghost use Rattle.rules.specs.Record.{sound};
+ghost use Rattle.rules.specs.Arguments.{overRecord};
 ghost use Rattle.lists.specs.Places.{standing, Inside, EachAt};
 ghost use Rattle.lists.specs.Records.{JudgedRecord};
+use super::asks::Ask;
+use super::asks::all_pass;
+use super::walking::moved;
+
+// Whether one of n records has more than 4 axes.
+pub fn over_axes(list: &[i32], records: [usize; 16], n: usize) -> bool
+    requires { ⌜ Inside n records (now list) ⌝ }
+    ensures { λ r. ⌜ r ≡ any overRecord (standing n records (now (list .entry))) ⌝ }
+{
+    let shapes = moved(list, records, n, records::RANK);
+    !all_pass(Ask::FewAxes, list, shapes, n)
+}
 
 // Whether the record at each of n places is sound; if so, each of them is readable.
 pub fn all_sound(s: &[i32], places: [usize; 16], n: usize) -> bool

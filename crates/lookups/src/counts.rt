@@ -11,12 +11,12 @@ pub fn nnz(s: &[i32], head: Head) -> usize
     requires { ⌜ SoundRecord head (now s) ⌝ }
     ensures { λ r. ⌜ r ≡ nnz (layoutIn (now (s .entry))) ⌝ }
 {
-    let kind = cells::get(s, 0);
+    let kind = cells::get(s, records::KIND);
     if kind == 0 {
-        return axes::product(s, 3, head.rank);
+        return axes::product(s, records::EXTENTS, head.rank);
     }
     if kind == 1 {
-        return shapes::extent(&s[2..], 0);
+        return shapes::extent(&s[records::RANK..], 0);
     }
     let rows = head.rows;
     rows.count

@@ -92,12 +92,12 @@ fn place_of(s: &[i32], head: Head, index: &[i32], read: &[i32]) -> Place
     requires { ⌜ IndexRead (now s) (now index) (now read) ⌝ }
     ensures { λ r. ⌜ placeSays r ≡ given (lookup (layoutIn (now (s .entry))) (naturals (now (index .entry)))) ⌝ }
 {
-    if !axes::row_below(read, 0, s, 3, head.rank) {
+    if !axes::row_below(read, 0, s, records::EXTENTS, head.rank) {
         return Place::Nothing;
     }
-    let kind = cells::get(s, 0);
+    let kind = cells::get(s, records::KIND);
     if kind == 0 {
-        return Place::Found(shapes::ravel(read, &s[2..]));
+        return Place::Found(shapes::ravel(read, &s[records::RANK..]));
     }
     if kind == 1 {
         return on_diagonal(index, shapes::natural_at(read, 0));
@@ -112,7 +112,7 @@ pub fn find(s: &[i32], head: Head, index: &[i32]) -> Place
     requires { ⌜ goodIndex (now index) (natural (getD (now s) 2 (pos 0))) ≡ true ⌝ }
     ensures { λ r. ⌜ placeSays r ≡ given (lookup (layoutIn (now (s .entry))) (naturals (now (index .entry)))) ⌝ }
 {
-    let read = read_index(index, &s[2..]);
+    let read = read_index(index, &s[records::RANK..]);
     let n = index.len();
     place_of(s, head, index, &read[..n])
 }

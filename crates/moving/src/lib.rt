@@ -1,15 +1,19 @@
-// A layout made in one part, section by section: its head, and rows and dependencies whose numbers are picked from those of a record.
+// A layout made in one part, section by section: its head, and rows and dependencies whose numbers are picked from those of a record; and
+// dependencies fitted to another rank.
 ghost use mathlib.Core.Path.{_≡_};
 ghost use mathlib.Core.List.{map};
 ghost use Prim.Native.Nat.{_+_, _≤_};
 ghost use lib.ListN.{length, take};
+ghost use Rattle.rules.specs.Lists.{fitTo};
 ghost use Rattle.rules.specs.RowsInOrder.{sorted};
 ghost use Rattle.rules.specs.Record.{layoutIn};
+ghost use Rattle.rules.specs.Dependencies.{onIndex};
 ghost use Rattle.cells.specs.View.{view};
 ghost use Rattle.tables.specs.Rows.{rowAt, rowsAt};
 ghost use Rattle.records.specs.Sound.{SoundRecord};
 ghost use Rattle.parts.specs.Parts.{partSize};
 ghost use Rattle.moving.specs.Sections.{HeadAsked, HeadMade, TableMade};
+ghost use Rattle.moving.specs.Fitting.{Smaller, FitAsked};
 ghost use Rattle.moving.specs.Picking.{picked, shorterPlaces, RowAsked, PickAsked, DepsPicked};
 use rules::Entries;
 use rules::Head;
@@ -117,4 +121,26 @@ pub fn pick_deps(s: &[i32], head: Head, places: [usize; 5], w: usize, part: &mut
     let inputs = head.inputs;
     pick_sorted(s, states, width, places, w, part, parts::STATES);
     pick_sorted(s, inputs, width, places, w, part, parts::INPUTS);
+}
+
+// The smaller of two numbers.
+pub fn smaller(a: usize, b: usize) -> usize
+    ensures { λ r. ⌜ Smaller a b r ⌝ }
+{
+    if a < b {
+        return a;
+    }
+    b
+}
+
+// The dependency at a place fitted to a rank: its index cut, or 0 on the new axes; its number stays behind.
+pub fn fitted(from: &[i32], at: usize, old: usize, rank: usize) -> [i32; 5]
+    requires { ⌜ FitAsked at old rank (now from) ⌝ }
+    ensures { λ r. ⌜ rowAt 0 (rank + 1) r ≡ onIndex (fitTo rank 0) (rowAt at (old + 1) (now (from .entry))) ⌝ }
+{
+    let mut entry = [0i32; 5];
+    let end = at + smaller(old, rank);
+    cells::copy(&from[at..end], &mut entry);
+    cells::copy_at(&mut entry, rank, from, at + old);
+    entry
 }

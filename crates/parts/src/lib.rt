@@ -19,14 +19,14 @@ pub const PART: usize = rules::RESULT_SIZE;
 
 pub const WORK: usize = rules::WORK_SIZE;
 
-// Where the sections of a layout stand in its part.
-pub const KIND: usize = 0;
+// Where the sections of a layout stand in its part: it begins as a record does.
+pub const KIND: usize = records::KIND;
 
-pub const DENSE: usize = 1;
+pub const DENSE: usize = records::DENSE;
 
-pub const RANK: usize = 2;
+pub const RANK: usize = records::RANK;
 
-pub const EXTENTS: usize = 3;
+pub const EXTENTS: usize = records::EXTENTS;
 
 pub const ROWS: usize = 7;
 
@@ -63,11 +63,11 @@ pub fn load(from: &[i32], head: Head, part: &mut [i32])
     requires { ⌜ partSize ≤ length (now part) ⌝ }
     ensures { λ _. ⌜ Loaded (now (from .entry)) (now (part .exit)) ⌝ }
 {
-    let rows = head.rank + 3;
+    let rows = head.rank + records::EXTENTS;
     let states = head.rows.next;
     let inputs = head.states.next;
     let end = head.inputs.next;
-    load_part(from, 0, rows, part, KIND);
+    load_part(from, records::KIND, rows, part, KIND);
     load_part(from, rows, states, part, ROWS);
     load_part(from, states, inputs, part, STATES);
     load_part(from, inputs, end, part, INPUTS);
@@ -104,7 +104,7 @@ pub fn store(part: &[i32], result: &mut [i32]) -> usize
 {
     let dense = cells::get(part, DENSE);
     let rank = cells::get(part, RANK);
-    let end = rank + 3;
+    let end = rank + records::EXTENTS;
     cells::copy(&part[..end], result);
     let states = store_table(part, ROWS, rank - dense, result, end);
     let inputs = store_table(part, STATES, rank + 1, result, states);

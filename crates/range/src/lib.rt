@@ -60,7 +60,7 @@ fn axis_to_cut(source: &[i32], other: Head, rank: usize) -> Axis
     requires { ⌜ SoundRecord other (now source) ⌝ }
     ensures { λ r. ⌜ AxisIs rank (layoutIn (now (source .entry))) r ⌝ }
 {
-    if 0 < cells::get(source, parts::KIND) {
+    if 0 < cells::get(source, records::KIND) {
         return Axis::Nowhere;
     }
     if other.rank == 0 {
@@ -69,7 +69,7 @@ fn axis_to_cut(source: &[i32], other: Head, rank: usize) -> Axis
     if other.rank < rank {
         return Axis::Nowhere;
     }
-    let wide = wide_axes(source, parts::EXTENTS, other.rank);
+    let wide = wide_axes(source, records::EXTENTS, other.rank);
     if 1 < wide.count {
         return Axis::Nowhere;
     }
@@ -81,7 +81,7 @@ fn in_range(s: &[i32], at: usize, rank: usize, cut: Cut) -> bool
     requires { ⌜ EntryAsked at rank cut (now s) ⌝ }
     ensures { λ r. ⌜ r ≡ inCut cut (rowAt 3 rank (now (s .entry))) (rowAt at (rank + 1) (now (s .entry))) ⌝ }
 {
-    if !axes::row_below(s, at, s, parts::EXTENTS, rank) {
+    if !axes::row_below(s, at, s, records::EXTENTS, rank) {
         return false;
     }
     let component = cells::get(s, at + cut.axis);

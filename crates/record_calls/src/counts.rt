@@ -33,7 +33,7 @@ pub fn min_rank(record: &[i32]) -> Number
     let Walk::To(_) = records::sound_head(record) else {
         return Number::Refused(Refusal::Unsound);
     };
-    Number::Is(lookups::min_rank(&record[2..]))
+    Number::Is(lookups::min_rank(&record[records::RANK..]))
 }
 
 // A test as it is answered.

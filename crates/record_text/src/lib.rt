@@ -33,7 +33,7 @@ pub fn write_layout(s: &[i32], out: &mut [u8]) -> usize
     let Walk::To(head) = records::walk_record(s) else {
         return 0;
     };
-    let rows = head.rank + 3;
+    let rows = head.rank + records::EXTENTS;
     write_lines(
         s,
         rows,
@@ -56,8 +56,8 @@ fn write_lines(
     requires { ⌜ InTurn rows states inputs end (length (now s)) × (12 * end + 5 ≤ length (now out)) ⌝ }
     ensures { λ r. ⌜ Front (fiveLines rows states inputs end (now (s .entry))) (now (out .exit)) r ⌝ }
 {
-    let mut at = write_part(s, 0, 2, out, 0);
-    at = write_part(s, 2, rows, out, at);
+    let mut at = write_part(s, records::KIND, records::RANK, out, 0);
+    at = write_part(s, records::RANK, rows, out, at);
     at = write_part(s, rows, states, out, at);
     at = write_part(s, states, inputs, out, at);
     write_part(s, inputs, end, out, at)

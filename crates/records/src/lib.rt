@@ -26,6 +26,18 @@ use rules::Head;
 use rules::Section;
 use rules::Walk;
 
+// Where a record has its kind.
+pub const KIND: usize = 0;
+
+// Where it has its dense-axis count.
+pub const DENSE: usize = 1;
+
+// Where it has the count of its extents, its rank; its shape begins here.
+pub const RANK: usize = 2;
+
+// Where its extents begin.
+pub const EXTENTS: usize = 3;
+
 // The section whose count stands at a place and whose entries have so many numbers each.
 pub fn section_at(s: &[i32], at: usize, width: usize) -> Section
     requires { ⌜ width < 2 ^ 32 ⌝ }
@@ -55,16 +67,16 @@ pub fn walk_record(s: &[i32]) -> Walk
     ensures { λ r. ⌜ r ≡ walk (now (s .entry)) ⌝ }
 {
     let front = Entries {
-        count: 2,
-        first: 0,
-        next: 2,
+        count: RANK,
+        first: KIND,
+        next: RANK,
     };
     let Section::Whole(extents) = reader::section_behind(s, front, 1) else {
         return Walk::Broken;
     };
     let rank = extents.count;
-    let kind = s[0];
-    let dense = s[1];
+    let kind = s[KIND];
+    let dense = s[DENSE];
     let Sign::Natural(width) = cells::less_by(rank, dense) else {
         return Walk::Broken;
     };
@@ -92,10 +104,10 @@ pub fn walk_record(s: &[i32]) -> Walk
 pub fn over_record(s: &[i32]) -> bool
     ensures { λ r. ⌜ r ≡ overRecord (now (s .entry)) ⌝ }
 {
-    if s.len() <= 2 {
+    if s.len() <= RANK {
         return false;
     }
-    match cells::sign_at(s, 2) {
+    match cells::sign_at(s, RANK) {
         Sign::Natural(rank) => rules::RANK_LIMIT < rank,
         Sign::Negative => false,
     }
@@ -178,7 +190,7 @@ fn kind_fits(s: &[i32], count: usize) -> bool
     requires { ⌜ 0 < length (now s) ⌝ }
     ensures { λ r. ⌜ r ≡ kindFits count (now (s .entry)) ⌝ }
 {
-    let kind = cells::get(s, 0);
+    let kind = cells::get(s, KIND);
     if 2 < kind {
         return false;
     }
@@ -193,7 +205,7 @@ fn axes_fit(s: &[i32], width: usize) -> bool
     requires { ⌜ 3 + width ≤ length (now s) ⌝ }
     ensures { λ r. ⌜ r ≡ axesFit width (now (s .entry)) ⌝ }
 {
-    let kind = cells::get(s, 0);
+    let kind = cells::get(s, KIND);
     if kind == 0 {
         return width == 0;
     }
@@ -201,7 +213,7 @@ fn axes_fit(s: &[i32], width: usize) -> bool
         if width == 0 {
             return false;
         }
-        return alike(s, 3, width);
+        return alike(s, EXTENTS, width);
     }
     true
 }
@@ -215,7 +227,7 @@ fn rows_fit(s: &[i32], rows: Entries, width: usize) -> bool
     if !tables::all_differ(s, rows.first, rows.count, width) {
         return false;
     }
-    axes::rows_below(s, rows.first, rows.count, s, 3, width)
+    axes::rows_below(s, rows.first, rows.count, s, EXTENTS, width)
 }
 
 // Whether a readable record obeys the rules of soundness other than size.
@@ -248,7 +260,7 @@ fn within_sizes(s: &[i32], h: Head) -> bool
 {
     let states = h.states;
     let inputs = h.inputs;
-    if !axes::within_product(s, 3, h.rank) {
+    if !axes::within_product(s, EXTENTS, h.rank) {
         return false;
     }
     if !small_deps(s, states.first, states.count, h.rank) {

@@ -17,11 +17,11 @@ fn sum_dense_axis(record: &[i32], head: Head, part: &mut [i32])
     requires { ⌜ head .width < head .rank ⌝ }
     ensures { λ _. ⌜ FrontMade (contracted (layoutIn (now («record» .entry)))) (now (part .entry)) (now (part .exit)) ⌝ }
 {
-    let kind = cells::get(record, parts::KIND);
+    let kind = cells::get(record, records::KIND);
     let dense = head.rank - head.width;
-    let end = head.rank + 2;
+    let last = head.rank + records::RANK;
     cells::store(part, parts::ROWS, 0);
-    moving::write_head(part, kind, dense - 1, &record[parts::EXTENTS..end]);
+    moving::write_head(part, kind, dense - 1, &record[records::EXTENTS..last]);
 }
 
 // A diagonal without dense axes: a diagonal if it has more than two axes, else dense.
@@ -31,12 +31,12 @@ fn sum_diagonal(record: &[i32], head: Head, part: &mut [i32])
     ensures { λ _. ⌜ FrontMade (contracted (layoutIn (now («record» .entry)))) (now (part .entry)) (now (part .exit)) ⌝ }
 {
     let rank = head.rank - 1;
-    let end = head.rank + 2;
+    let last = head.rank + records::RANK;
     cells::store(part, parts::ROWS, 0);
     if 1 < rank {
-        moving::write_head(part, 1, 0, &record[parts::EXTENTS..end]);
+        moving::write_head(part, 1, 0, &record[records::EXTENTS..last]);
     } else {
-        moving::write_head(part, 0, rank, &record[parts::EXTENTS..end]);
+        moving::write_head(part, 0, rank, &record[records::EXTENTS..last]);
     }
 }
 
@@ -48,15 +48,15 @@ fn sum_rows(record: &[i32], head: Head, part: &mut [i32])
     ensures { λ _. ⌜ FrontMade (contracted (layoutIn (now («record» .entry)))) (now (part .entry)) (now (part .exit)) ⌝ }
 {
     let rank = head.rank - 1;
-    let end = head.rank + 2;
+    let last = head.rank + records::RANK;
     let rows = head.rows;
     let places = moving::shorter_places(rank, head.rank);
     moving::pick_sorted(record, rows, head.width, places, rank, part, parts::ROWS);
-    if cells::get(part, parts::ROWS) == axes::product(record, parts::EXTENTS, rank) {
+    if cells::get(part, parts::ROWS) == axes::product(record, records::EXTENTS, rank) {
         cells::store(part, parts::ROWS, 0);
-        moving::write_head(part, 0, rank, &record[parts::EXTENTS..end]);
+        moving::write_head(part, 0, rank, &record[records::EXTENTS..last]);
     } else {
-        moving::write_head(part, 2, 0, &record[parts::EXTENTS..end]);
+        moving::write_head(part, 2, 0, &record[records::EXTENTS..last]);
     }
 }
 
@@ -67,7 +67,7 @@ fn sum_front(record: &[i32], head: Head, part: &mut [i32])
 {
     if head.width < head.rank {
         sum_dense_axis(record, head, part);
-    } else if cells::get(record, parts::KIND) == 1 {
+    } else if cells::get(record, records::KIND) == 1 {
         sum_diagonal(record, head, part);
     } else {
         sum_rows(record, head, part);

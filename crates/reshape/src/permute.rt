@@ -86,8 +86,8 @@ fn move_front(
 {
     let rank = largest + 1;
     let dense = head.rank - head.width;
-    let extents = moving::picked_row(record, parts::EXTENTS, head.rank, 1, places, rank);
-    let kind = cells::get(record, parts::KIND);
+    let extents = moving::picked_row(record, records::EXTENTS, head.rank, 1, places, rank);
+    let kind = cells::get(record, records::KIND);
     if kind == 0 {
         cells::store(part, parts::ROWS, 0);
         moving::write_head(part, 0, rank, &extents[..rank]);
@@ -144,7 +144,7 @@ pub fn permute_into(record: &[i32], head: Head, entries: &[i32], part: &mut [i32
     if head.rank < count {
         return Step::Refused(Refusal::NoPermutation);
     }
-    if count < lookups::min_rank(&record[2..]) {
+    if count < lookups::min_rank(&record[records::RANK..]) {
         return Step::Refused(Refusal::NoPermutation);
     }
     let moves = moves_of(entries);

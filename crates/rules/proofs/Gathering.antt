@@ -1,7 +1,7 @@
 -- Rows gathered: which they are, how many, and that none comes again. Assumes nothing.
 use mathlib.Core.Path.{_≡_, refl}
 use mathlib.Core.Logic.{⊎-elim}
-use mathlib.Core.List.{List, [], _∷_, List·Memᴰ, List·Memᴰ·head, List·Memᴰ·tail, List·Memᴰ·not-nil, List·Memᴰ·append-cases, Memᴰ·append-left, Memᴰ·append-right}
+use mathlib.Core.List.{List, [], _∷_, _++_, append-assoc, List·Memᴰ, List·Memᴰ·head, List·Memᴰ·tail, List·Memᴰ·not-nil, List·Memᴰ·append-cases, Memᴰ·append-left, Memᴰ·append-right}
 use Prim.Native.Nat.{ℕ, _*_}
 use native.Mathlib.Nat.{zero-mul, suc-mul}
 use native.Mathlib.Omega.{arith}
@@ -10,6 +10,12 @@ use Rattle.rules.specs.Lists.{gather}
 use Rattle.rules.specs.RowsInOrder.{In, Each}
 use Rattle.rules.proofs.Sets.{in-same, each-head, each-tail}
 use Rattle.rules.proofs.Once.{Once, once-nil, once-cons, append-once}
+
+-- what is gathered of some, and of others
+pub gather-append : {A B : Type 0} (f : A → List B) (xs ys : List A) → gather f (xs ++ ys) ≡ gather f xs ++ gather f ys
+unfolding gather
+gather-append f [] ys = refl
+gather-append f (x ∷ xs) ys = rw (gather-append f xs ys, append-assoc)
 
 module _ {A : Type 0} (f : A → List (List ℕ)) where
   -- each of them comes from an element

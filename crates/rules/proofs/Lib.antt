@@ -13,6 +13,7 @@
 --     Given                                                        that what they give is sound
 --     StretchedHolds, Full, IntersectHolds, ContractedHolds,
 --     PermutedHolds                                                what is held then
+--     Agreeing                                                     the common shape of shapes, by plain cases
 --     Giving, Unchanged, Folding, BroadcastEnds, BroadcastHolds    a broadcast: what is stretched, folded in order, its end, and what it holds
 --     MovedBy, Blocks, ConcatenateMade, JoinHolds                  blocks: what is moved by a start, what they have in common, what is made of them, and what a join holds
 --     Calls                                                        what calls answer of sound records
@@ -89,6 +90,7 @@ pub mod RecordPiles
 pub mod PileByHand
 pub mod ContractedHolds
 pub mod PermutedHolds
+pub mod Agreeing
 pub mod Giving
 pub mod Unchanged
 pub mod Folding

@@ -1,49 +1,13 @@
 // Module 1, shapes: the common shape, and whether a shape broadcasts to another.
 ghost use mathlib.Core.Path.{_≡_};
-ghost use Rattle.rules.specs.Refusals.{refused, numberOf};
 ghost use Rattle.rules.specs.Endings.{testSays, TupleIs};
-ghost use Rattle.rules.specs.Shapes.{broadcastShapes, broadcastShapesCall, canBroadcastToCall};
-ghost use Rattle.shapes.specs.Judged.{Judged};
-ghost use Rattle.lists.specs.Places.{EachAt};
-ghost use Rattle.lists.specs.Asked.{shapesAt};
+ghost use Rattle.rules.specs.Shapes.{broadcastShapesCall, canBroadcastToCall};
 use lists::Ask;
 use lists::Thing;
-use rules::Number;
+use lists::no_tuple;
 use rules::Refusal;
 use rules::Test;
 use rules::Tuple;
-
-// A shape or an index that is refused.
-pub fn no_tuple(why: Refusal) -> Tuple
-    ensures { λ r. ⌜ TupleIs (refused (numberOf why)) r ⌝ }
-{
-    Tuple {
-        count: Number::Refused(why),
-        numbers: [0; 4],
-    }
-}
-
-// The common shape of n shapes that were judged.
-fn agreed_shape(shapes: &[i32], places: [usize; 16], n: usize) -> Tuple
-    requires { ⌜ EachAt Judged n places (now shapes) ⌝ }
-    ensures { λ r. ⌜ TupleIs (broadcastShapes (shapesAt n places (now (shapes .entry)))) r ⌝ }
-{
-    if n == 0 {
-        return no_tuple(Refusal::ShapesDisagree);
-    }
-    if !lists::shapes_agree(shapes, places, n) {
-        return no_tuple(Refusal::ShapesDisagree);
-    }
-    let axes = lists::longest(shapes, places, n);
-    let numbers = lists::common_shape(shapes, places, n);
-    if !shapes::within_product(numbers) {
-        return no_tuple(Refusal::MadeTooLarge);
-    }
-    Tuple {
-        count: Number::Is(axes),
-        numbers,
-    }
-}
 
 // The common shape of as many shapes as `count` says, end to end.
 pub fn broadcast_shapes(shapes: &[i32], count: i32) -> Tuple
@@ -60,7 +24,7 @@ pub fn broadcast_shapes(shapes: &[i32], count: i32) -> Tuple
     if !lists::all_pass(Ask::GoodShape, shapes, places, n) {
         return no_tuple(Refusal::WrongArgument);
     }
-    agreed_shape(shapes, places, n)
+    lists::agreed_shape(shapes, places, n)
 }
 
 // Whether the shape `from` broadcasts to the shape `to`.

@@ -29,7 +29,7 @@ use Rattle.rules.proofs.Given.{stretch-sound, stretch-low}
 use Rattle.cells.specs.View.{view}
 use Rattle.cells.proofs.View.{view-part}
 use Rattle.tables.specs.Rows.{rowAt}
-use Rattle.tables.proofs.Rows.{row-length, lent-row}
+use Rattle.tables.proofs.Rows.{row-length, front-row, lent-row}
 use Rattle.tables.proofs.Only.{view-outside, row-outside}
 use Rattle.axes.specs.Extents.{Extents}
 use Rattle.records.specs.Sound.{SoundRecord}
@@ -41,7 +41,6 @@ use Rattle.parts.proofs.Saying.{says-refused}
 use Rattle.moving.specs.Sections.{HeadAsked, HeadMade}
 use Rattle.stretch.specs.Spread.{extentsIn}
 use Rattle.stretch.specs.Layouts.{StretchAsked, FillAsked, TablesMade}
-use Rattle.stretch.proofs.Fitting.{front-row}
 
 -- what does not both hold and fail is implied
 not-both : (p q : Bool) → p && not q ≡ false → implies p q ≡ true

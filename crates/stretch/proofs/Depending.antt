@@ -1,4 +1,4 @@
--- Dependencies of a record, each fitted to the new rank: `fitted` and `stretch_deps`. Assumes nothing.
+-- Dependencies of a record, each fitted to the new rank: `stretch_deps`. Assumes nothing.
 use mathlib.Core.Path.{_≡_, refl, sym}
 use mathlib.Core.Bool.{Bool, true, false}
 use mathlib.Core.List.{List, [], _∷_, _++_, append-nil}
@@ -14,6 +14,7 @@ use Rattle.rules.specs.Dependencies.{onIndex}
 use Rattle.rules.specs.Stretching.{stretchedAxes, alone}
 use Rattle.rules.proofs.Buffers.{length-part}
 use Rattle.rules.proofs.Changed.{changed-low}
+use Rattle.rules.proofs.Gathering.{gather-append}
 use Rattle.rules.proofs.Replaced.{fit-low}
 use Rattle.cells.specs.View.{view}
 use Rattle.cells.proofs.View.{view-set, view-over, view-part, view-getD, view-zeros}
@@ -21,48 +22,10 @@ use Rattle.tables.specs.Rows.{rowAt, rowsAt, HasRow, HasRows}
 use Rattle.tables.specs.Tables.{Taken, Listed}
 use Rattle.tables.proofs.Rows.{row-length, row-number, lent-row, row-ends, has-row, rows-more, rows-none}
 use Rattle.tables.proofs.Taking.{taken-none, cleared-ready, cleared-listed}
-use Rattle.stretch.specs.Spread.{Shapes, extentsIn, Smaller}
-use Rattle.stretch.specs.Tables.{inTurn, EntryAsked, FitAsked, DepsAsked, yielded}
-use Rattle.stretch.proofs.InTurn.{gather-append, turn-more, taken-turn, taken-halt}
-use Rattle.stretch.proofs.Fitting.{fitted-front, front-row}
-
--- ---- one dependency: `fitted`
-
-module _ {at old rank : ℕ} {s : List ℤ} (a : FitAsked at old rank s) where
-  -- its number
-  abbrev number : ℕ
-  number = getD (view s) (at + old) 0
-
-  -- a dependency with its index changed
-  changed : (f : List ℕ → List ℕ) → onIndex f (rowAt at (old + 1) s) ≡ f (rowAt at old s) ++ (number ∷ [])
-  unfolding onIndex
-  changed f =
-      let d = rowAt at (old + 1) s in
-      let long : length d ≡ old + 1 = row-length at (old + 1) s (omega (arith, a .room)) in
-      let last : length d - 1 ≡ old = omega arith in
-      let none : drop (suc old) d ≡ [] = drop-of-length-le d {i = suc old} (omega arith) in
-      rw (last, ← front-row at old (old + 1) s (omega arith), drop-cons d old 0 (omega arith), none, row-number at (old + 1) old s (omega arith))
-
-  module _ {n : ℕ} (m : Smaller old rank n) {copied : List ℤ} (lent : copied ≡ over (take (at + n - at) (drop at s)) (zeros 5)) where
-    p : copied ≡ over (part at n s) (zeros 5)
-    p = rw (← lent-row at n s) lent
-
-    copied-is : view copied ≡ take n (rowAt at old s) ++ drop n (replicate 5 0)
-    copied-is =
-        rw (p, view-over, view-part, view-zeros, length-part at n s (omega (arith, a .room, m .first)), front-row at n old s (m .first))
-
-    copied-long : length (view copied) ≡ 5
-    copied-long =
-        rw (p, view-over, view-part, view-zeros, length-part at n s (omega (arith, a .room, m .first)))
-        (rw (length-append, row-length at n s (omega (arith, a .room, m .first)), length-drop) (omega (arith, m .first, a .old-few)))
-
-    -- the index is fitted, and the number stands behind it
-    pub is-fitted : {entry : List ℤ} → entry ≡ set copied rank (getD s (at + old) (pos 0)) → rowAt 0 (rank + 1) entry ≡ onIndex (fitTo rank 0) (rowAt at (old + 1) s)
-    unfolding part
-    is-fitted q =
-        let front : take rank (view copied) ≡ fitTo rank 0 (rowAt at old s) =
-        rw copied-is (fitted-front 0 (rowAt at old s) rank n 5 (rw (row-length at old s (omega (arith, a .room))) m) (omega (arith, a .rank-few))) in
-        rw (changed (fitTo rank 0), q, view-set, ← view-getD s (at + old), add-one, take-suc-set (view copied) rank number (omega (arith, copied-long, a .rank-few)), front)
+use Rattle.moving.specs.Fitting.{FitAsked}
+use Rattle.stretch.specs.Spread.{Shapes, extentsIn}
+use Rattle.stretch.specs.Tables.{inTurn, EntryAsked, DepsAsked, yielded}
+use Rattle.stretch.proofs.InTurn.{turn-more, taken-turn, taken-halt}
 
 -- ---- all dependencies: `stretch_deps`
 

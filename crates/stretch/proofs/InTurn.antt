@@ -1,5 +1,5 @@
 -- Rows that are put into a table one list after the other, until one is too many. Assumes nothing.
-use mathlib.Core.Path.{_≡_, refl, sym, ap, _∙_}
+use mathlib.Core.Path.{_≡_, sym, ap, _∙_}
 use mathlib.Core.Bool.{Bool, true, false}
 use mathlib.Core.List.{List, [], _∷_, _++_, append-assoc, append-nil}
 use Prim.Native.Nat.{ℕ, zero, suc, _+_, _-_, _<_, _≤_}
@@ -7,17 +7,12 @@ use native.Mathlib.Nat.{add-zero, add-suc, suc-add, zero-add}
 use native.Mathlib.Omega.{arith}
 use lib.IntN.{ℤ}
 use Rattle.rules.specs.Lists.{gather, from}
+use Rattle.rules.proofs.Gathering.{gather-append}
 use Rattle.tables.specs.Tables.{Taken}
 use Rattle.tables.proofs.Taking.{taken-then, taken-stop}
 use Rattle.stretch.specs.Tables.{inTurn}
 
--- ---- lists that are gathered
-
--- some, and others
-pub gather-append : {A B : Type 0} (f : A → List B) (xs ys : List A) → gather f (xs ++ ys) ≡ gather f xs ++ gather f ys
-unfolding gather
-gather-append f [] ys = refl
-gather-append f (x ∷ xs) ys = rw (gather-append f xs ys, append-assoc)
+-- ---- numbers one after the other
 
 -- the numbers from a on, m and then n of them
 from-append : (a m n : ℕ) → from a (m + n) ≡ from a m ++ from (a + m) n

@@ -22,7 +22,8 @@ use Rattle.cells.specs.View.{view}
 use Rattle.cells.proofs.View.{view-length, view-set}
 use Rattle.tables.specs.Rows.{rowAt}
 use Rattle.tables.proofs.Rows.{row-length, row-number}
-use Rattle.stretch.specs.Spread.{Shapes, extentsIn, Smaller, valuesOn, spreadOver}
+use Rattle.moving.specs.Fitting.{Smaller}
+use Rattle.stretch.specs.Spread.{Shapes, extentsIn, valuesOn, spreadOver}
 use Rattle.stretch.proofs.InTurn.{from-more}
 
 -- ---- one extent: `axis_fits`

@@ -1,5 +1,4 @@
 -- The old extents, which stand in a record, and the new ones, at a place of a slice.
-use mathlib.Core.Logic.{_⊎_}
 use mathlib.Core.Path.{_≡_}
 use mathlib.Core.Bool.{true}
 use mathlib.Core.List.{List, [], _∷_, map}
@@ -22,12 +21,6 @@ pub record Shapes (old : ℕ) (from : List ℤ) (at rank : ℕ) (shape : List �
 -- the extents of a record
 abbrev pub extentsIn : ℕ → List ℤ → List ℕ
 extentsIn old from = rowAt 3 old from
-
--- r is the smaller of two numbers
-pub record Smaller (a b r : ℕ) : Type 0 where
-  pub first : r ≤ a
-  pub second : r ≤ b
-  pub one : (r ≡ a) ⊎ (r ≡ b)
 
 -- how many values an axis takes: all below its new extent where it is stretched, one otherwise
 abbrev pub valuesOn : List ℕ → List ℕ → ℕ → ℕ

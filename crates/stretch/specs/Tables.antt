@@ -40,12 +40,6 @@ pub record EntryAsked (entry : List ℤ) (old : ℕ) (from : List ℤ) (at rank 
 abbrev pub yieldOn : List ℕ → List ℕ → List ℕ → ℕ → List (List ℕ)
 yieldOn old new d axis = if (isStretched old new axis) (everyValue new d axis) []
 
--- a dependency in a record, and a rank to fit it to
-pub record FitAsked (at old rank : ℕ) (from : List ℤ) : Type 0 where
-  pub room : at + old + 1 ≤ length from
-  pub old-few : old ≤ 4
-  pub rank-few : rank ≤ 4
-
 -- some dependencies of a record, both shapes, and room for a table
 pub record DepsAsked (first count old : ℕ) (from : List ℤ) (at rank : ℕ) (shape : List ℤ) (to : ℕ) (s : List ℤ) : Type 0 where
   pub rows : HasRows first (old + 1) count from

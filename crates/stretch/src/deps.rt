@@ -2,27 +2,13 @@
 ghost use mathlib.Core.Path.{_≡_};
 ghost use mathlib.Core.List.{[], _∷_};
 ghost use Prim.Native.Nat.{_+_, _<_};
-ghost use Rattle.rules.specs.Lists.{with, fitTo};
-ghost use Rattle.rules.specs.Dependencies.{onIndex};
+ghost use Rattle.rules.specs.Lists.{with};
 ghost use Rattle.rules.specs.Stretching.{stretchedAxes, alone};
 ghost use Rattle.tables.specs.Rows.{rowAt};
 ghost use Rattle.tables.specs.Tables.{Taken, Listed};
 ghost use Rattle.stretch.specs.Spread.{extentsIn};
-ghost use Rattle.stretch.specs.Tables.{inTurn, ValuesAsked, EntryAsked, yieldOn, FitAsked, DepsAsked, yielded};
+ghost use Rattle.stretch.specs.Tables.{inTurn, ValuesAsked, EntryAsked, yieldOn, DepsAsked, yielded};
 use super::spread::is_stretched;
-use super::spread::smaller;
-
-// The dependency at a place fitted to a rank: its index cut, or 0 on the new axes; its number stays behind.
-pub fn fitted(from: &[i32], at: usize, old: usize, rank: usize) -> [i32; 5]
-    requires { ⌜ FitAsked at old rank (now from) ⌝ }
-    ensures { λ r. ⌜ rowAt 0 (rank + 1) r ≡ onIndex (fitTo rank 0) (rowAt at (old + 1) (now (from .entry))) ⌝ }
-{
-    let mut entry = [0i32; 5];
-    let end = at + smaller(old, rank);
-    cells::copy(&from[at..end], &mut entry);
-    cells::copy_at(&mut entry, rank, from, at + old);
-    entry
-}
 
 // The entry with every value on one axis is put into the table; false where that makes too many entries.
 fn put_values(
@@ -116,7 +102,7 @@ pub fn stretch_deps(
     cells::store(part, to, 0);
     let mut i = 0;
     while i < count {
-        let entry = fitted(from, first + i * (old + 1), old, rank);
+        let entry = moving::fitted(from, first + i * (old + 1), old, rank);
         if !put_alone(entry, from, old, shape, at, rank, part, to) {
             return false;
         }

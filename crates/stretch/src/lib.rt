@@ -17,7 +17,6 @@ ghost use Rattle.records.specs.Sound.{SoundRecord};
 ghost use Rattle.parts.specs.Parts.{partSize};
 ghost use Rattle.parts.specs.Answers.{Says};
 ghost use Rattle.stretch.specs.Layouts.{StretchAsked, FillAsked, TablesMade};
-pub use deps::fitted;
 use deps::stretch_deps;
 use rows::stretch_rows;
 use rules::Head;
@@ -72,7 +71,7 @@ fn bends(from: &[i32], width: usize, shape: &[i32], at: usize) -> bool
     requires { ⌜ (0 < length (now from)) × (at + width ≤ length (now shape)) ⌝ }
     ensures { λ r. ⌜ r ≡ (eqb (getD (view (now (from .entry))) 0 0) 1 && not (alike (rowAt at width (now (shape .entry))))) ⌝ }
 {
-    if cells::get(from, 0) != 1 {
+    if cells::get(from, records::KIND) != 1 {
         return false;
     }
     !records::alike(shape, at, width)
@@ -100,7 +99,7 @@ pub fn stretch_into(
     if bends(from, head.width, shape, at) {
         return Step::Refused(Refusal::MadeUnsound);
     }
-    let kind = cells::get(from, parts::KIND);
+    let kind = cells::get(from, records::KIND);
     let end = at + rank;
     moving::write_head(part, kind, rank - head.width, &shape[at..end]);
     if fill(from, head, shape, at, rank, part) {

@@ -8,20 +8,8 @@ ghost use Rattle.rules.specs.Lists.{all, fitTo};
 ghost use Rattle.rules.specs.Stretching.{sharedAxesFit, isStretched};
 ghost use Rattle.cells.specs.View.{view};
 ghost use Rattle.tables.specs.Rows.{rowAt};
-ghost use Rattle.stretch.specs.Spread.{Shapes, extentsIn, Smaller, valuesOn, spreadOver};
-
-// Where the extents of a record begin.
-const EXTENTS: usize = 3;
-
-// The smaller of two numbers.
-pub fn smaller(a: usize, b: usize) -> usize
-    ensures { λ r. ⌜ Smaller a b r ⌝ }
-{
-    if a < b {
-        return a;
-    }
-    b
-}
+ghost use Rattle.stretch.specs.Spread.{Shapes, extentsIn, valuesOn, spreadOver};
+use records::EXTENTS;
 
 // Whether an extent may become another one: it is 1, or the same.
 fn axis_fits(extent: usize, new: usize) -> bool
@@ -38,7 +26,7 @@ pub fn shared_fit(from: &[i32], old: usize, shape: &[i32], at: usize, rank: usiz
     requires { ⌜ Shapes old (now from) at rank (now shape) ⌝ }
     ensures { λ r. ⌜ r ≡ sharedAxesFit (extentsIn old (now (from .entry))) (rowAt at rank (now (shape .entry))) ⌝ }
 {
-    let both = smaller(old, rank);
+    let both = moving::smaller(old, rank);
     for k in 0..both {
         if !axis_fits(cells::get(from, EXTENTS + k), cells::get(shape, at + k)) {
             return false;
@@ -68,7 +56,7 @@ pub fn fitted_extents(from: &[i32], old: usize, rank: usize) -> [i32; 4]
     ensures { λ r. ⌜ rowAt 0 rank r ≡ fitTo rank 1 (extentsIn old (now (from .entry))) ⌝ }
 {
     let mut extents = [1i32; 4];
-    let end = EXTENTS + smaller(old, rank);
+    let end = EXTENTS + moving::smaller(old, rank);
     cells::copy(&from[EXTENTS..end], &mut extents);
     extents
 }

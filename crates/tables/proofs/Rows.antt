@@ -6,7 +6,7 @@ use native.Mathlib.Nat.{suc-mul, zero-mul, suc-add, zero-add, mul-le-mul-right}
 use native.Mathlib.Omega.{arith}
 use lib.IntN.{ℤ, pos}
 use lib.ListN.{length, getD, take, drop, replicate}
-use lib.Seq.{getD-take, getD-drop, drop-drop, take-at, drop-at}
+use lib.Seq.{getD-take, getD-drop, take-take, drop-drop, take-at, drop-at}
 use Rattle.rules.specs.Buffers.{part, put}
 use Rattle.rules.specs.RowsInOrder.{In, Each}
 use Rattle.rules.specs.Record.{rowsOf}
@@ -32,6 +32,11 @@ row-number a w k s h = rw (getD-take, getD-drop)
 -- a number of a row that lies in the slice is not negative
 pub row-low : (a w k : ℕ) (s : List ℤ) → HasRow a w s → k < w → getD (view s) (a + k) 0 < 2 ^ 31
 row-low a w k s r h = rw (row-number a w k s) at (r .low k)
+
+-- the first n numbers at a place are the first n of more
+pub front-row : (a n w : ℕ) (s : List ℤ) → n ≤ w → rowAt a n s ≡ take n (rowAt a w s)
+unfolding part
+front-row a n w s h = sym (take-take n w (drop a (view s)) h)
 
 -- the part of a slice that is lent for it
 pub lent-row : (a w : ℕ) (s : List ℤ) → take (a + w - a) (drop a s) ≡ part a w s

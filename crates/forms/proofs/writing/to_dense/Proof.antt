@@ -16,6 +16,12 @@ part-write-record-start c = search needs
 part-write-record-end : tie.Need-part-write-record-end
 part-write-record-end c = search needs
 
+slice-aggregate-write-record : tie.Need-slice-aggregate-write-record
+slice-aggregate-write-record c = search needs
+
+mul-write-record : tie.Need-mul-write-record
+mul-write-record c = search needs
+
 sub-write-record-2 : tie.Need-sub-write-record-2
 sub-write-record-2 c = search needs
 
@@ -24,18 +30,6 @@ part-write-record-start-2 c = search needs
 
 part-write-record-end-2 : tie.Need-part-write-record-end-2
 part-write-record-end-2 c = search needs
-
-mul-write-record : tie.Need-mul-write-record
-mul-write-record c = search needs
-
-sub-write-record-3 : tie.Need-sub-write-record-3
-sub-write-record-3 c = search needs
-
-part-write-record-start-3 : tie.Need-part-write-record-start-3
-part-write-record-start-3 c = search needs
-
-part-write-record-end-3 : tie.Need-part-write-record-end-3
-part-write-record-end-3 c = search needs
 
 write-record-requires : tie.Need-write-record-requires
 write-record-requires c κs = search (needs, denses)
@@ -54,13 +48,11 @@ to-dense-spec =
     sub-write-record
     part-write-record-start
     part-write-record-end
+    slice-aggregate-write-record
+    mul-write-record
     sub-write-record-2
     part-write-record-start-2
     part-write-record-end-2
-    mul-write-record
-    sub-write-record-3
-    part-write-record-start-3
-    part-write-record-end-3
     write-record-requires
     same-length
     returns)

@@ -14,8 +14,9 @@ use Rattle.rules.specs.Record.{natural, listCount, blocksIn, sound}
 use Rattle.rules.specs.Arguments.{overCount, overRank, overRecord}
 use Rattle.rules.specs.Concatenate.{goodBlock, concatenateCall}
 use Rattle.lists.specs.Starts.{blocksAt}
+use Rattle.lists.proofs.Asking.{few-listed}
 use Rattle.judging.specs.LentSizes.{SizesKept}
-use Rattle.list_calls.proofs.Concatenations.{told-by, end-most, walkedTo, ask-starts, wrong-are, joined-said, over-are, sound-are, ask-joined, few-listed, join-early, join-kept, rank-few, join-unsound, join-wrong, all-good, join-says, join-done}
+use Rattle.list_calls.proofs.Concatenations.{told-by, end-most, walkedTo, ask-starts, wrong-are, joined-said, over-are, sound-are, ask-joined, join-early, join-kept, rank-few, join-unsound, join-wrong, all-good, join-says, join-done}
 use Rattle.list_calls.proofs.joining.concatenate.Statement.{statement}
 use Rattle.list_calls.proofs.joining.concatenate.Tie as tie
 

@@ -16,12 +16,6 @@ enum-told-2 c = search needs
 good-shape-requires : tie.Need-good-shape-requires
 good-shape-requires c κs = search needs
 
-enum-told-3 : tie.Need-enum-told-3
-enum-told-3 c = search needs
-
-sound-requires : tie.Need-sound-requires
-sound-requires c κs = search needs
-
 enum-known-ask : tie.Need-enum-known-ask
 enum-known-ask c = search needs
 
@@ -49,9 +43,6 @@ returns-3 c = search (needs, asked-laws)
 returns-4 : tie.Need-returns-4
 returns-4 c = search (needs, asked-laws)
 
-returns-5 : tie.Need-returns-5
-returns-5 c = search (needs, asked-laws)
-
 pub passes-spec : {M : Type 1} → statement M
 passes-spec =
     tie.close
@@ -60,8 +51,6 @@ passes-spec =
     over-shape-requires
     enum-told-2
     good-shape-requires
-    enum-told-3
-    sound-requires
     enum-known-ask
     good-block-requires
     enum-known-ask-2
@@ -70,5 +59,4 @@ passes-spec =
     returns
     returns-2
     returns-3
-    returns-4
-    returns-5)
+    returns-4)

@@ -10,8 +10,8 @@ get-requires c κs = search needs
 sub-dense : tie.Need-sub-dense
 sub-dense c = search needs
 
-add-end : tie.Need-add-end
-add-end c = search needs
+add-last : tie.Need-add-last
+add-last c = search needs
 
 store-requires : tie.Need-store-requires
 store-requires c κs = search needs
@@ -52,7 +52,7 @@ sum-dense-axis-spec =
     (tie.spec
     get-requires
     sub-dense
-    add-end
+    add-last
     store-requires
     sub-write-head
     sub-write-head-2

@@ -7,8 +7,8 @@ use Rattle.reshape.proofs.contract.sum_diagonal.Tie as tie
 sub-rank : tie.Need-sub-rank
 sub-rank c = search needs
 
-add-end : tie.Need-add-end
-add-end c = search needs
+add-last : tie.Need-add-last
+add-last c = search needs
 
 store-requires : tie.Need-store-requires
 store-requires c κs = search needs
@@ -70,7 +70,7 @@ sum-diagonal-spec =
     tie.close
     (tie.spec
     sub-rank
-    add-end
+    add-last
     store-requires
     sub-write-head
     part-write-head-start

@@ -9,8 +9,8 @@ use Rattle.reshape.proofs.contract.sum_rows.Tie as tie
 sub-rank : tie.Need-sub-rank
 sub-rank c = search needs
 
-add-end : tie.Need-add-end
-add-end c = search needs
+add-last : tie.Need-add-last
+add-last c = search needs
 
 shorter-places-requires : tie.Need-shorter-places-requires
 shorter-places-requires c κs = let few = axes-few (c .before .before .before .pre .0) in omega arith
@@ -106,7 +106,7 @@ sum-rows-spec =
     tie.close
     (tie.spec
     sub-rank
-    add-end
+    add-last
     shorter-places-requires
     pick-sorted-requires
     get-requires

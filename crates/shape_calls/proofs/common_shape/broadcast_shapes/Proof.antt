@@ -97,7 +97,7 @@ returns-4 c =
     let few = told-false (overCount (first .before .before .args .count)) (over (first .before)) (first .if1 .left) in
     let short = over-listed (placed .places .ensures .inside) (second .before .all-pass .ensures) (second .if2 .left) in
     let good = told-not-false _ (third .before .all-pass2 .ensures) (third .if3 .left) in
-    tuple-same (c .agreed-shape .ensures) (by-count _ _ _ (listed (placed .before)) (placed .places .ensures .begin) (search judged))
+    tuple-same (c .agreed-shape .ensures .0) (by-count _ _ _ (listed (placed .before)) (placed .places .ensures .begin) (search judged))
 
 pub broadcast-shapes-spec : {M : Type 1} → statement M
 broadcast-shapes-spec =

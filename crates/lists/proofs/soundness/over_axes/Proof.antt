@@ -1,9 +1,8 @@
 -- `over_axes`: where the shapes stand.
 use borrow.Author.Needs.{needs}
-use Rattle.list_calls.proofs.Broadcasts.{over-moved}
-use borrow.Author.Needs.{needs}
-use Rattle.list_calls.proofs.broadcasting.over_axes.Statement.{statement}
-use Rattle.list_calls.proofs.broadcasting.over_axes.Tie as tie
+use Rattle.lists.proofs.Asking.{over-moved}
+use Rattle.lists.proofs.soundness.over_axes.Statement.{statement}
+use Rattle.lists.proofs.soundness.over_axes.Tie as tie
 
 moved-requires : tie.Need-moved-requires
 moved-requires c κs = search needs

@@ -1,12 +1,12 @@
--- `common_shape`: the axes before this one have their largest extents.
+-- `common_extents`: the axes before this one have their largest extents.
 use Prim.Native.Nat.{_-_}
 use borrow.Author.Needs.{needs}
 use Rattle.rules.specs.Shapes.{commonExtent}
 use Rattle.lists.specs.Asked.{shapesAt}
 use Rattle.lists.proofs.Entering.{Filled, filled-laws}
 use Rattle.lists.proofs.Common.{extent-is, common-is}
-use Rattle.lists.proofs.agreeing.common_shape.Statement.{statement}
-use Rattle.lists.proofs.agreeing.common_shape.Tie as tie
+use Rattle.lists.proofs.agreeing.common_extents.Statement.{statement}
+use Rattle.lists.proofs.agreeing.common_extents.Tie as tie
 
 abbrev Inv-loop : tie.InvT-loop
 Inv-loop s places n extents₀ axes axis₀ extents axis = Filled (λ a. commonExtent a (shapesAt n places s)) axes axis extents
@@ -41,8 +41,8 @@ loop-again c = search (needs, filled-laws, extent-is)
 returns : tie.Need-returns Inv-loop μ-loop
 returns c = search (needs, filled-laws, common-is)
 
-pub common-shape-spec : {M : Type 1} → statement M
-common-shape-spec =
+pub common-extents-spec : {M : Type 1} → statement M
+common-extents-spec =
     tie.close
     (tie.spec
     Inv-loop

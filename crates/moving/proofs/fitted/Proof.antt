@@ -1,8 +1,8 @@
 -- `fitted`: the front of the index is copied onto zeros, and the number goes behind it.
-use Rattle.stretch.proofs.Depending.{is-fitted}
+use Rattle.moving.proofs.Fitting.{is-fitted}
 use borrow.Author.Needs.{needs}
-use Rattle.stretch.proofs.deps.fitted.Statement.{statement}
-use Rattle.stretch.proofs.deps.fitted.Tie as tie
+use Rattle.moving.proofs.fitted.Statement.{statement}
+use Rattle.moving.proofs.fitted.Tie as tie
 
 smaller-requires : tie.Need-smaller-requires
 smaller-requires c κs = search needs
