@@ -4,7 +4,7 @@ use mathlib.Core.Bool.{Bool, true, false, not, _||_}
 use mathlib.Core.List.{List, [], _∷_, map}
 use Prim.Native.Nat.{ℕ}
 use native.Mathlib.Omega.{arith}
-use borrow.Author.Tests.{not-false}
+use borrow.Author.Tests.{not-true, not-false}
 use lib.IntN.{ℤ}
 use lib.ListN.{length}
 use Rattle.rules.specs.declared.Refusal.{Refusal}
@@ -16,27 +16,25 @@ use Rattle.rules.specs.declared.Written.the-variants.{Refused as NotWritten}
 use Rattle.rules.specs.Limits.{workSize}
 use Rattle.rules.specs.Lists.{all, any}
 use Rattle.rules.specs.Buffers.{over, zeros}
-use Rattle.rules.specs.Refusals.{Verdict, inForm, numberOf, Reason, _when_, _then_, lowest}
+use Rattle.rules.specs.Refusals.{Verdict, inForm, _when_, _then_, lowest}
 use Rattle.rules.specs.Layout.{Layout, encode}
 use Rattle.rules.specs.Record.{endToEnd, behindRecord, listCount, recordsIn, layoutIn, sound}
 use Rattle.rules.specs.Arguments.{overCount, overRecord}
 use Rattle.rules.specs.Endings.{Ends}
 use Rattle.rules.specs.Broadcast.{ruleOf, broadcast}
 use Rattle.rules.proofs.BroadcastRefused.{broadcast-refusing}
-use Rattle.tables.proofs.Only.{only-wider}
 use Rattle.parts.specs.Parts.{windowSize, left}
 use Rattle.parts.specs.Answers.{Says, Finished}
 use Rattle.parts.proofs.Ending.{AboveTwo, Late}
-use Rattle.parts.proofs.Lent.{lentOf, backIn, back-says}
-use Rattle.parts.proofs.Windows.{window-only}
+use Rattle.parts.proofs.Lent.{lentOf, backIn}
 use Rattle.lists.specs.Places.{standing, EachAt, PlacesOf}
 use Rattle.lists.specs.Records.{JudgedRecord, layoutsAt}
 use Rattle.judging.specs.declared.Sizes.{Sizes}
 use Rattle.judging.specs.declared.Sizes.the-variants.{Kept, Refused}
 use Rattle.judging.specs.LentSizes.{sizeReasons, SizesKept, SizesAre}
-use Rattle.judging.proofs.Judged.{reason-holds, reason-passed}
-use Rattle.judging.proofs.LentSizes.{kept-told, refused-told, told-either}
-use Rattle.judging.proofs.Endings.{ends-early, ends-late, ends-done}
+use Rattle.judging.proofs.LentSizes.{kept-told, told-either}
+use Rattle.judging.proofs.Endings.{nothing-more}
+use Rattle.list_calls.proofs.ListCalls.{list-early, list-says, list-unsound, list-done}
 
 -- ---- the records of a list
 
@@ -58,49 +56,46 @@ module _ (s : List ℤ) (count : ℤ) (operator : ℕ) (result work : List ℤ) 
   abbrev told : Bool
   told = overCount count || any overRecord (recordsIn count s)
 
-  abbrev reasons : List Reason
-  reasons = 3 when not (all sound (recordsIn count s)) ∷ []
+  abbrev good : Bool
+  good = all sound (recordsIn count s)
 
-  abbrev step-gives : Verdict Layout
-  step-gives = broadcast (map layoutIn (recordsIn count s)) (ruleOf operator)
+  abbrev gives : Verdict Layout
+  gives = broadcast (map layoutIn (recordsIn count s)) (ruleOf operator)
 
   abbrev call : Verdict Layout
-  call = lowest (sizeReasons told (length result) (length work) reasons) then λ _. step-gives
+  call = lowest (sizeReasons told (length result) (length work) (3 when not good ∷ [])) then λ _. gives
 
   -- 1 or 2
   module _ {a b o : Bool} (a-is : a ≡ overCount count) (b-is : b ≡ any overRecord (recordsIn count s)) (o-is : o ≡ a || b) {r : Sizes} (sizes : SizesAre o (length result) (length work) r) where
+    o-told : o ≡ told
+    o-told = told-either (overCount count) (any overRecord (recordsIn count s)) a-is b-is o-is
+
     pub broadcast-early : {why : Refusal} → r ≡ Refused why → Ends (inForm encode call) result work (NotWritten why) result work
-    broadcast-early e =
-        ends-early told reasons step-gives result work (refused-told (told-either (overCount count) (any overRecord (recordsIn count s)) a-is b-is o-is) sizes e)
+    broadcast-early e = list-early told good [] gives result work o-told sizes e
 
     pub broadcast-kept : r ≡ Kept → SizesKept told (length result) (length work)
-    broadcast-kept e = kept-told (told-either (overCount count) (any overRecord (recordsIn count s)) a-is b-is o-is) sizes e
+    broadcast-kept e = kept-told o-told sizes e
 
   module _ (k : SizesKept told (length result) (length work)) (n : ℕ) (places : List ℕ) (are : standing n places s ≡ recordsIn count s) {t : Bool} (t-is : t ≡ all sound (standing n places s)) where
-    all-told : all sound (recordsIn count s) ≡ t
-    all-told = ap (all sound) (sym are) ∙ sym t-is
+    good-told : good ≡ t
+    good-told = ap (all sound) (sym are) ∙ sym t-is
 
     -- 3
     pub broadcast-unsound : not t ≡ true → {r : Written} {work′ : List ℤ} → (r ≡ NotWritten Unsound) × (work′ ≡ over (zeros workSize) work) → Ends (inForm encode call) result work r result work′
-    unfolding numberOf
-    broadcast-unsound e f =
-        ends-late told reasons step-gives result work k (omega arith, tt) {why = Unsound}
-        (reason-holds 3 (not (all sound (recordsIn count s))) [] (rw all-told e)) f
+    broadcast-unsound e f = list-unsound told good [] gives result work k tt (good-told ∙ not-true t e) f
 
     -- no reason holds: the window came back from the step
     module _ {rule : Rule} (rule-is : rule ≡ ruleOf operator) {step : Step} {w : List ℤ} (same : length w ≡ length (lentOf 0 windowSize work))
         (says : Says (broadcast (layoutsAt n places s) rule) left w step) where
-      pub broadcast-says : Says step-gives left (backIn 0 windowSize work w) step
-      broadcast-says =
-          let d : Says step-gives left w step = rw (← rule-is, ← are) says in
-          back-says 0 windowSize work (omega arith) (omega (arith, k .work-long)) w same left left refl (omega arith) d
+      said : Says gives left w step
+      said = rw (← rule-is, ← are) says
+
+      pub broadcast-says : Says gives left (backIn 0 windowSize work w) step
+      broadcast-says = list-says told good [] gives result work k left (omega arith) same said
 
       pub broadcast-done : not t ≡ false → {result′ work′ : List ℤ} {r : Written} → Finished step left (backIn 0 windowSize work w) result r work′ result′ →
           Ends (inForm encode call) result work r result′ work′
-      unfolding lowest
-      broadcast-done e f =
-          ends-done told reasons step-gives result work k (reason-passed 3 (not (all sound (recordsIn count s))) [] (rw all-told e)) (late-broadcast _ _) broadcast-says
-          (only-wider (window-only work (k .work-long) w same) 0 workSize (omega arith) (omega arith)) f
+      broadcast-done e f = list-done told good [] gives result work k tt (good-told ∙ not-false t e) nothing-more (late-broadcast _ _) left (omega arith) same said f
 
 -- what the step requires
 pub records-judged : {n : ℕ} {places : List ℕ} {s : List ℤ} {t : Bool} → (t ≡ true → EachAt JudgedRecord n places s) → not t ≡ false → EachAt JudgedRecord n places s

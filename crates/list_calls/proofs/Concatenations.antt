@@ -1,5 +1,5 @@
 -- How a call that joins blocks ends. Assumes nothing.
-use mathlib.Core.Path.{_≡_, refl, sym, ap, _∙_, subst}
+use mathlib.Core.Path.{_≡_, refl, sym, ap, _∙_}
 use mathlib.Core.Bool.{Bool, true, false, not, _&&_, _||_}
 use mathlib.Core.List.{List, [], _∷_, map}
 use Prim.Native.Nat.{ℕ, zero, suc, _+_, _-_, _≤_}
@@ -18,20 +18,19 @@ use Rattle.rules.specs.declared.Written.the-variants.{Refused as NotWritten}
 use Rattle.rules.specs.Limits.{rankLimit, workSize}
 use Rattle.rules.specs.Lists.{if, all, any}
 use Rattle.rules.specs.Buffers.{over, zeros}
-use Rattle.rules.specs.Refusals.{Verdict, inForm, numberOf, Reason, _when_, _then_, lowest}
+use Rattle.rules.specs.Refusals.{Verdict, inForm, Reason, _when_, _then_, lowest}
 use Rattle.rules.specs.Layout.{Layout, encode}
 use Rattle.rules.specs.Record.{natural, endToEnd, behindBlock, behindRecord, walk, sectionAt, entriesFrom, listCount, RawBlock, blockAt, blocksIn, sound}
 use Rattle.rules.specs.Arguments.{overCount, overRank, overRecord}
 use Rattle.rules.specs.Endings.{Ends}
 use Rattle.rules.specs.Concatenate.{goodBlock, blockOf, concatenate}
 use Rattle.rules.proofs.Same.{neither, both-true}
+use Rattle.rules.proofs.Refusing.{Reasons}
 use Rattle.rules.proofs.ConcatenateRefused.{concatenate-refusing}
-use Rattle.tables.proofs.Only.{only-wider}
 use Rattle.parts.specs.Parts.{windowSize, target}
 use Rattle.parts.specs.Answers.{Says, Finished}
 use Rattle.parts.proofs.Ending.{AboveTwo}
 use Rattle.parts.proofs.Lent.{lentOf, backIn}
-use Rattle.parts.proofs.Windows.{window-only, window-says}
 use Rattle.lists.specs.declared.asks.Ask.the-variants.{GoodBlock}
 use Rattle.lists.specs.declared.walking.Thing.the-variants.{Block}
 use Rattle.lists.specs.Places.{behindThing, standing, EachAt, PlacesOf}
@@ -41,12 +40,12 @@ use Rattle.lists.specs.Records.{JudgedRecord}
 use Rattle.lists.proofs.Asking.{over-blocks, sound-blocks, good-blocks}
 use Rattle.judging.specs.declared.Sizes.{Sizes}
 use Rattle.judging.specs.declared.Sizes.the-variants.{Kept, Refused}
-use Rattle.judging.specs.LentSizes.{sizeReasons, SizesKept, SizesRefused, SizesAre}
-use Rattle.judging.proofs.Judged.{reason-holds, reason-passed}
-use Rattle.judging.proofs.LentSizes.{kept-sizes, refused-sizes}
-use Rattle.judging.proofs.Endings.{ends-early, ends-late, ends-done}
+use Rattle.judging.specs.LentSizes.{sizeReasons, SizesKept, SizesAre}
+use Rattle.judging.proofs.Judged.{argument-wrong, argument-right, told-not-true, told-not-false}
+use Rattle.judging.proofs.LentSizes.{kept-told}
 use Rattle.entries.specs.Merging.{blocksOf}
 use Rattle.join.specs.Assembling.{JoinAsked}
+use Rattle.list_calls.proofs.ListCalls.{list-early, list-says, list-unsound, list-later, list-done}
 
 -- ---- the records of a list
 
@@ -149,28 +148,32 @@ module _ (s : List ℤ) (count rank : ℤ) (result work : List ℤ) where
   abbrev told : Bool
   told = overCount count || overRank rank || any (λ b. overRecord (b .layout)) blocks
 
+  abbrev good : Bool
+  good = all (λ b. sound (b .layout)) blocks
+
   abbrev bad : Bool
   bad = not (nonNeg rank && all goodBlock blocks)
 
   abbrev later : List Reason
   later = 5 when bad ∷ []
 
-  abbrev reasons : List Reason
-  reasons = 3 when not (all (λ b. sound (b .layout)) blocks) ∷ later
-
   abbrev gives : Verdict Layout
   gives = concatenate (map blockOf blocks) (natural rank)
 
   abbrev call : Verdict Layout
-  call = lowest (sizeReasons told (length result) (length work) reasons) then λ _. gives
+  call = lowest (sizeReasons told (length result) (length work) (3 when not good ∷ later)) then λ _. gives
+
+  -- 5 is above 2
+  late-later : Reasons AboveTwo later
+  late-later = (omega arith, tt)
 
   -- 1 or 2
   module _ {o : Bool} (o-is : o ≡ told) {r : Sizes} (sizes : SizesAre o (length result) (length work) r) where
     pub join-early : {why : Refusal} → r ≡ Refused why → Ends (inForm encode call) result work (NotWritten why) result work
-    join-early {why} e = ends-early told reasons gives result work (subst (λ (t : Bool). SizesRefused t (length result) (length work) why) o-is (refused-sizes sizes e))
+    join-early e = list-early told good later gives result work o-is sizes e
 
     pub join-kept : r ≡ Kept → SizesKept told (length result) (length work)
-    join-kept e = subst (λ (t : Bool). SizesKept t (length result) (length work)) o-is (kept-sizes sizes e)
+    join-kept e = kept-told o-is sizes e
 
   module _ (k : SizesKept told (length result) (length work)) where
     -- the asked rank is at most 4
@@ -179,23 +182,15 @@ module _ (s : List ℤ) (count rank : ℤ) (result work : List ℤ) where
         let first = neither (overCount count || overRank rank) (any (λ b. overRecord (b .layout)) blocks) (k .not-over) .0 in
         ltb-false rankLimit (natural rank) (neither (overCount count) (overRank rank) first .1)
 
-    module _ {t : Bool} (t-is : t ≡ all (λ b. sound (b .layout)) blocks) where
+    module _ {t : Bool} (t-is : t ≡ good) where
       -- 3
       pub join-unsound : not t ≡ true → {r : Written} {work′ : List ℤ} → (r ≡ NotWritten Unsound) × (work′ ≡ over (zeros workSize) work) → Ends (inForm encode call) result work r result work′
-      unfolding numberOf
-      join-unsound e f =
-          ends-late told reasons gives result work k (omega arith, (omega arith, tt)) {why = Unsound}
-          (reason-holds 3 (not (all (λ b. sound (b .layout)) blocks)) later (rw (← t-is) e)) f
+      join-unsound e f = list-unsound told good later gives result work k late-later (told-not-true good t-is e) f
 
       module _ (e : not t ≡ false) {w : Bool} (w-is : w ≡ bad) where
-        passed : lowest reasons ≡ lowest later
-        passed = reason-passed 3 (not (all (λ b. sound (b .layout)) blocks)) later (rw (← t-is) e)
-
         -- 5
         pub join-wrong : w ≡ true → {r : Written} {work′ : List ℤ} → (r ≡ NotWritten WrongArgument) × (work′ ≡ over (zeros workSize) work) → Ends (inForm encode call) result work r result work′
-        unfolding numberOf
-        join-wrong f g =
-            ends-late told reasons gives result work k (omega arith, (omega arith, tt)) {why = WrongArgument} (passed ∙ reason-holds 5 bad [] (sym w-is ∙ f)) g
+        join-wrong f g = list-later told good later gives result work k late-later (told-not-false good t-is e) (argument-wrong bad (sym w-is ∙ f)) g
 
         module _ (f : w ≡ false) where
           -- starts and flags are good
@@ -205,10 +200,9 @@ module _ (s : List ℤ) (count rank : ℤ) (result work : List ℤ) where
           -- no reason holds: the window came back from the step
           module _ {step : Step} {u : List ℤ} (same : length u ≡ length (lentOf 0 windowSize work)) (says : Says gives target u step) where
             pub join-says : Says gives target (backIn 0 windowSize work u) step
-            join-says = window-says work (k .work-long) u same says
+            join-says = list-says told good later gives result work k target (omega arith) same says
 
             pub join-done : {result′ work′ : List ℤ} {r : Written} → Finished step target (backIn 0 windowSize work u) result r work′ result′ → Ends (inForm encode call) result work r result′ work′
-            unfolding lowest
             join-done g =
-                ends-done told reasons gives result work k (passed ∙ reason-passed 5 bad [] (sym w-is ∙ f)) (concatenate-refusing AboveTwo (omega arith) (omega arith) (omega arith) _ _) join-says
-                (only-wider (window-only work (k .work-long) u same) 0 workSize (omega arith) (omega arith)) g
+                list-done told good later gives result work k late-later (told-not-false good t-is e) (argument-right bad (sym w-is ∙ f))
+                (concatenate-refusing AboveTwo (omega arith) (omega arith) (omega arith) _ _) target (omega arith) same says g
