@@ -1,11 +1,11 @@
 -- The common shape of shapes, by plain cases. Assumes nothing.
 use mathlib.Core.Path.{_≡_}
-use mathlib.Core.Bool.{true, false, not, _||_}
+use mathlib.Core.Bool.{true, false}
 use mathlib.Core.List.{List}
 use Prim.Native.Nat.{ℕ}
 use Rattle.rules.specs.Lists.{none}
 use Rattle.rules.specs.Layout.{withinProduct}
-use Rattle.rules.specs.Refusals.{given, refused, _then_, _when_, lowest}
+use Rattle.rules.specs.Refusals.{given, refused, lowest}
 use Rattle.rules.specs.Shapes.{shapesAgree, commonShape, broadcastShapes}
 
 module _ (shapes : List (List ℕ)) where

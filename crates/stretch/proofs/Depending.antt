@@ -1,26 +1,21 @@
 -- Dependencies of a record, each fitted to the new rank: `stretch_deps`. Assumes nothing.
 use mathlib.Core.Path.{_≡_, refl, sym}
 use mathlib.Core.Bool.{Bool, true, false}
-use mathlib.Core.List.{List, [], _∷_, _++_, append-nil}
+use mathlib.Core.List.{List, [], append-nil}
 use Prim.Native.Nat.{ℕ, zero, suc, _+_, _*_, _-_, _<_, _≤_}
 use native.Mathlib.Numerals.{add-one}
 use native.Mathlib.Omega.{arith}
 use lib.IntN.{ℤ, pos}
-use lib.ListN.{length, getD, take, drop, set, replicate, length-append, length-drop, drop-of-length-le}
-use lib.Seq.{take-suc-set, drop-cons}
+use lib.ListN.{length, set}
 use Rattle.rules.specs.Lists.{gather, from, fitTo}
-use Rattle.rules.specs.Buffers.{part, over, zeros}
 use Rattle.rules.specs.Dependencies.{onIndex}
 use Rattle.rules.specs.Stretching.{stretchedAxes, alone}
-use Rattle.rules.proofs.Buffers.{length-part}
 use Rattle.rules.proofs.Changed.{changed-low}
 use Rattle.rules.proofs.Gathering.{gather-append}
 use Rattle.rules.proofs.Replaced.{fit-low}
-use Rattle.cells.specs.View.{view}
-use Rattle.cells.proofs.View.{view-set, view-over, view-part, view-getD, view-zeros}
 use Rattle.tables.specs.Rows.{rowAt, rowsAt, HasRow, HasRows}
 use Rattle.tables.specs.Tables.{Taken, Listed}
-use Rattle.tables.proofs.Rows.{row-length, row-number, lent-row, row-ends, has-row, rows-more, rows-none}
+use Rattle.tables.proofs.Rows.{row-length, row-ends, has-row, rows-more, rows-none}
 use Rattle.tables.proofs.Taking.{taken-none, cleared-ready, cleared-listed}
 use Rattle.moving.specs.Fitting.{FitAsked}
 use Rattle.stretch.specs.Spread.{Shapes, extentsIn}

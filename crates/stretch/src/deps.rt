@@ -1,5 +1,4 @@
 // Dependencies: each yields itself fitted to the new rank, and for each stretched axis alone every value there.
-ghost use mathlib.Core.Path.{_≡_};
 ghost use mathlib.Core.List.{[], _∷_};
 ghost use Prim.Native.Nat.{_+_, _<_};
 ghost use Rattle.rules.specs.Lists.{with};
