@@ -1,6 +1,6 @@
 -- `larger_of`: by which is larger.
 use borrow.Author.Needs.{needs}
-use Rattle.reshape.proofs.Moves.{larger-laws}
+use Rattle.rules.proofs.Order.{larger-laws}
 use Rattle.reshape.proofs.permute.larger_of.Statement.{statement}
 use Rattle.reshape.proofs.permute.larger_of.Tie as tie
 
