@@ -16,7 +16,7 @@ use Rattle.rules.specs.Record.{naturals, layoutIn, entriesFrom, sectionAt, walk
 use Rattle.rules.specs.Concatenate.{Block, layoutsOf, shapesOf, firstExtent, startAt, runOnFirst, runOnDiagonal, laterExtent, laterAxes, laterAgree, firstD, lastAgree, agree, reach, blockOf}
 use Rattle.rules.proofs.Same.{true-not-false}
 use Rattle.rules.proofs.Tests.{all-at}
-use Rattle.rules.proofs.Ranges.{map-at}
+use Rattle.rules.proofs.Ranges.{map-at, map-agree}
 use Rattle.lists.specs.Places.{standing, Inside, PlacesOf}
 use Rattle.lists.specs.Starts.{blocksAt, startsIn, StartsOf}
 use Rattle.lists.specs.Records.{layoutsAt}
@@ -27,7 +27,6 @@ use Rattle.blocks.specs.declared.deciding.Join.{Join}
 use Rattle.blocks.specs.Blocks.{blockWith, blocksBy, BlocksAt}
 use Rattle.blocks.specs.Asked.{otherwise}
 use Rattle.blocks.specs.Joins.{rowsWay, wayOther, wayOf, denseBy, shapeBy, joinOf}
-use Rattle.blocks.proofs.Shapes.{map-from}
 use Rattle.blocks.proofs.Placed.{noBlock, length-blocks, placed-at}
 
 -- ---- flags do not matter
@@ -84,7 +83,7 @@ module _ (r : ℕ) (blocks : List Block) where
       ap (λ (l : List Layout). if (eqb r 0) [] (sum (map firstExtent l) ∷ map (laterExtent (shapesOf (map unflagged blocks))) (laterAxes r))) (layouts-unflagged blocks)
       ∙ ap (λ (shapes : List (List ℕ)). if (eqb r 0) [] (sum (map firstExtent (layoutsOf blocks)) ∷ map (laterExtent shapes) (laterAxes r))) (shapes-unflagged blocks)
   shape-unflagged Diagonal = ap (λ (shapes : List (List ℕ)). map (λ axis. sum (map (λ shape. getD shape axis 0) shapes)) (below r)) (shapes-unflagged blocks)
-  shape-unflagged Rows = map-from (reach (map unflagged blocks)) (reach blocks) 0 r (λ axis u v. reach-unflagged blocks axis)
+  shape-unflagged Rows = map-agree (reach (map unflagged blocks)) (reach blocks) 0 r (λ axis u v. reach-unflagged blocks axis)
 
   -- how blocks are joined does not depend on their flags
   pub join-unflagged : joinOf r (map unflagged blocks) ≡ joinOf r blocks

@@ -13,6 +13,7 @@ use Rattle.rules.specs.Limits.{rankLimit}
 use Rattle.rules.specs.Lists.{if, sum, larger, largest, from, below, fitTo}
 use Rattle.rules.specs.Layout.{Layout}
 use Rattle.rules.specs.Concatenate.{Block, layoutsOf, shapesOf, firstExtent, laterExtent, laterAxes, reach}
+use Rattle.rules.proofs.Ranges.{map-agree}
 use Rattle.rules.proofs.Largest.{larger-is}
 use Rattle.cells.specs.View.{Low}
 use Rattle.lists.specs.Records.{layoutsAt}
@@ -60,14 +61,6 @@ pub ruleset extent-laws = (no-extent, first-extent, later-extent, diagonal-exten
 
 -- ---- all axes
 
--- the extents of two lists of axes are the same if those of each axis are
-pub map-from : (f g : ℕ → ℕ) (a n : ℕ) → ((k : ℕ) → a ≤ k → k < a + n → f k ≡ g k) → map f (from a n) ≡ map g (from a n)
-unfolding from
-map-from f g a zero h = refl
-map-from f g a (suc n) h =
-    ap (λ (x : ℕ). x ∷ map f (from (suc a) n)) (h a (omega arith) (omega arith))
-    ∙ ap (λ (m : List ℕ). g a ∷ m) (map-from f g (suc a) n (λ k l u. h k (omega arith) (omega arith)))
-
 -- zeros are no extents
 no-extents : (r : ℕ) → r ≤ 4 → fitTo 4 0 (map (λ (axis : ℕ). 0) (below r)) ≡ fitTo 4 0 []
 unfolding fitTo from
@@ -87,7 +80,7 @@ dense-shape l shapes (suc r) =
     let same : suc r - 1 ≡ r = omega arith in
     rw (ne-eqb (suc r) 0 (λ e. omega arith), same)
     (ap (λ (m : List ℕ). sum (map firstExtent l) ∷ m)
-    (map-from (λ axis. if (eqb axis 0) (sum (map firstExtent l)) (laterExtent shapes axis)) (laterExtent shapes) 1 r (λ axis u v. rw (ne-eqb axis 0 (λ e. omega arith)))))
+    (map-agree (λ axis. if (eqb axis 0) (sum (map firstExtent l)) (laterExtent shapes axis)) (laterExtent shapes) 1 r (λ axis u v. rw (ne-eqb axis 0 (λ e. omega arith)))))
 
 module _ (r : ℕ) (h : r ≤ 4) where
   -- blocks reach as far by the numbers of their starts that count
@@ -111,7 +104,7 @@ module _ (r : ℕ) (h : r ≤ 4) where
   extents-are Diagonal starts l =
       ap (λ (shapes : List (List ℕ)). fitTo 4 0 (map (λ axis. sum (map (λ shape. getD shape axis 0) shapes)) (below r)))
       (shapes-placed 4 starts l ∙ sym (shapes-placed r starts l))
-  extents-are Rows starts l = ap (fitTo 4 0) (map-from (reach (placed 4 starts l)) (reach (placed r starts l)) 0 r (λ axis u v. reach-by starts l axis (omega arith)))
+  extents-are Rows starts l = ap (fitTo 4 0) (map-agree (reach (placed 4 starts l)) (reach (placed r starts l)) 0 r (λ axis u v. reach-by starts l axis (omega arith)))
 
 -- the first k of rank extents are there, and none is too large
 pub record ExtentsTo (way : Way) (rank n : ℕ) (records : List ℕ) (starts : List (List ℕ)) (s : List ℤ) (k : ℕ) (out : List ℕ) : Type 0 where

@@ -38,6 +38,7 @@ use Rattle.tables.proofs.Rows.{row-number}
 use Rattle.records.specs.Sound.{SoundRecord}
 use Rattle.records.proofs.Layouts.{has-states, has-inputs}
 use Rattle.records.proofs.SoundRecords.{layout-sound, layout-shown}
+use Rattle.records.proofs.Shown.{deps-low}
 use Rattle.entries.specs.declared.entries.Listed.{Listed}
 use Rattle.entries.specs.declared.entries.Listed.the-variants.{Rows, States, Inputs}
 use Rattle.entries.specs.Listing.{fitted, listed, movedList, rowWidth, OfWidth, axesIn, ListAsked, StartLow, MoveAsked, Moved, EntryIs}
@@ -108,8 +109,8 @@ module _ {l : Layout} (p : Sound l) where
       (λ d o. changed-of-rank (fitTo r 0) d o (λ i e. fit-length r 0 i) (λ i g. fit-low r i g))
       (λ d m. record { size = f .lengths d m; small = s d m })
 
-  pub deps-low : (r : ℕ) {deps : List (List ℕ)} → NumbersBelow (2 ^ 31) deps → NumbersBelow (2 ^ 31) (fitted r deps)
-  deps-low r f = each-map (RowBelow (2 ^ 31)) (onIndex (fitTo r 0)) (λ d o. changed-low (fitTo r 0) d o (λ i g. fit-low r i g)) f
+  pub fitted-low : (r : ℕ) {deps : List (List ℕ)} → NumbersBelow (2 ^ 31) deps → NumbersBelow (2 ^ 31) (fitted r deps)
+  fitted-low r f = each-map (RowBelow (2 ^ 31)) (onIndex (fitTo r 0)) (λ d o. changed-low (fitTo r 0) d o (λ i g. fit-low r i g)) f
 
 -- ---- entries
 
@@ -123,10 +124,10 @@ pub list-fits : (x : Listed) {r w : ℕ} {l : Layout} → Sound l → DepsLow l 
 list-fits Rows p q f d m = let a = rows-fit p d m in record { size = a .size ∙ sym (f .1); small = λ k h. omega (arith, a .low k); low = λ k. omega (arith, a .low k) }
 list-fits States {r} p q f d m =
     let a = deps-of-rank p r (p .form .states-fit) (p .sizes .states-small) d m in
-    record { size = omega (arith, a .size, f .1); small = λ k h. omega (arith, a .small k h); low = deps-low p r (q .states-low) d m }
+    record { size = omega (arith, a .size, f .1); small = λ k h. omega (arith, a .small k h); low = fitted-low p r (q .states-low) d m }
 list-fits Inputs {r} p q f d m =
     let a = deps-of-rank p r (p .form .inputs-fit) (p .sizes .inputs-small) d m in
-    record { size = omega (arith, a .size, f .1); small = λ k h. omega (arith, a .small k h); low = deps-low p r (q .inputs-low) d m }
+    record { size = omega (arith, a .size, f .1); small = λ k h. omega (arith, a .small k h); low = fitted-low p r (q .inputs-low) d m }
 
 -- the axes are no more than the numbers, nor than the asked rank, nor than 4
 pub record AxesFew (n r w : ℕ) : Type 0 where
@@ -146,10 +147,6 @@ axes-few Inputs l f h = record { upto = omega (arith, f .1); within = omega arit
 
 -- ---- an entry of a record that is moved: `moved_entry`
 
--- the dependencies of a sound record are low
-pub record-low : {h : Head} {s : List ℤ} → SoundRecord h s → DepsLow (layoutIn s)
-record-low r = rw (layout-shown r) (record { states-low = has-states (r .readable) .low; inputs-low = has-inputs (r .readable) .low })
-
 -- entry i of a list
 abbrev rowOf : Listed → ℕ → ℕ → List ℤ → List ℕ
 rowOf x r i s = getD (listed x r (layoutIn s)) i []
@@ -157,7 +154,7 @@ rowOf x r i s = getD (listed x r (layoutIn s)) i []
 module _ {x : Listed} {h : Head} {s : List ℤ} {r w : ℕ} (a : ListAsked x h s r w) (start : List ℕ) {i : ℕ} (q : StartLow start × (i < length (listed x r (layoutIn s))))
     (entry : List ℤ) (long : length entry ≡ 5) (is : rowAt 0 w entry ≡ getD (listed x r (layoutIn s)) i []) {n : ℕ} (n-is : n ≡ axesIn x r w) where
   fits : EntryFits x r w (rowOf x r i s)
-  fits = list-fits x (layout-sound (a .source)) (record-low (a .source)) (a .fits) (rowOf x r i s) (in-at (listed x r (layoutIn s)) i (q .1))
+  fits = list-fits x (layout-sound (a .source)) (deps-low (a .source)) (a .fits) (rowOf x r i s) (in-at (listed x r (layoutIn s)) i (q .1))
 
   few : AxesFew n r w
   few = rw n-is (axes-few x (layoutIn s) (a .fits) (a .few))

@@ -24,7 +24,7 @@ use Rattle.rules.specs.Soundness.{WellFormed}
 use Rattle.rules.specs.Endings.{EndsIn}
 use Rattle.rules.specs.CountsAndForms.{sparse}
 use Rattle.rules.proofs.Made.{Formed, formed-made}
-use Rattle.rules.proofs.RowsRead.{pos-naturals, rows-length, gather-rows}
+use Rattle.rules.proofs.RowsRead.{pos-naturals, rows-length, gather-rows, rows-of-width}
 use Rattle.rules.proofs.Same.{both-true, decided, true-not-false}
 use Rattle.rules.proofs.Sets.{each-nil}
 use Rattle.rules.proofs.Soundness.{well-formed-true, true-well-formed}
@@ -42,7 +42,7 @@ use Rattle.forms.specs.Windows.{RowsInside}
 use Rattle.forms.proofs.Packed.{flat}
 use Rattle.forms.proofs.Pieces.{encode-pieces, ends-same}
 use Rattle.forms.proofs.Making.{extents, lent-extents, ends-refused}
-use Rattle.forms.proofs.Listing.{below, rows-wide, rows-natural}
+use Rattle.forms.proofs.Listing.{below, rows-natural}
 
 -- ---- without axes
 
@@ -137,7 +137,7 @@ module _ (s : List ℤ) {w : ℕ} (n : ℕ) (numbers : List ℤ) (size : length 
               rank-most = omega arith;
               sparse-rows = λ x. absurd (x refl);
               rows-distinct = rw rows (eqb-true _ _ q);
-              row-lengths = rw (rows, width) (rows-wide w n (naturals numbers) long);
+              row-lengths = rw (rows, width) (rows-of-width w n (naturals numbers) long);
               rows-below = rw rows (all-each (below s) (sym told-below ∙ not-false u k));
               dense-all = λ x. absurd (omega arith);
               diagonal-wide = λ x. absurd (omega arith);

@@ -19,17 +19,6 @@ use Rattle.tables.specs.Rows.{rowsAt}
 use Rattle.tables.proofs.Rows.{lent-row}
 use Rattle.shapes.proofs.Reading.{view-natural}
 
--- ---- rows of a list
-
--- where the list is long enough, each has w numbers
-pub rows-wide : (w n : ℕ) (l : List ℕ) → n * w ≤ length l → Each (λ r. length r ≡ w) (rowsOf w n l)
-unfolding rowsOf
-rows-wide w zero l h = each-nil _
-rows-wide w (suc n) l h =
-    let size : suc n * w ≡ w + n * w = omega (arith, suc-mul n w) in
-    let rest : n * w ≤ length (drop w l) = rw length-drop (omega arith) in
-    each-cons (length-take-le w l (omega arith)) (rows-wide w n (drop w l) rest)
-
 -- ---- a part that is lent
 
 -- is a part of the naturals

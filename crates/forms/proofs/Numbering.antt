@@ -24,7 +24,7 @@ use Rattle.rules.proofs.Extents.{product-nonzero, extent-nonzero}
 use Rattle.rules.proofs.Indices.{ravel-below, ravel-same}
 use Rattle.rules.proofs.Places.{in-at}
 use Rattle.rules.proofs.Ranges.{map-at}
-use Rattle.rules.proofs.RowsRead.{all-part, rows-length, rows-row}
+use Rattle.rules.proofs.RowsRead.{all-part, rows-length, rows-row, rows-of-width}
 use Rattle.rules.proofs.Same.{both-true, true-not-false}
 use Rattle.rules.proofs.Tests.{all-at, true-both}
 use Rattle.tables.specs.Rows.{rowsAt}
@@ -34,7 +34,7 @@ use Rattle.shapes.specs.Judged.{Judged}
 use Rattle.shapes.proofs.Reading.{length-naturals}
 use Rattle.shapes.proofs.Judging.{shape-within}
 use Rattle.forms.specs.Windows.{RowInside, RowsInside, rowNumbers, Twice, DifferIn}
-use Rattle.forms.proofs.Listing.{below, rows-wide, rows-natural, lent-naturals}
+use Rattle.forms.proofs.Listing.{below, rows-natural, lent-naturals}
 use Rattle.forms.proofs.Marking.{Apart, apart-start, apart-turn}
 
 -- ---- the extents of a judged shape
@@ -120,7 +120,7 @@ module _ {shape numbers : List ℤ} {w n : ℕ} (r : RowsInside shape w n number
         let rows : List (List ℕ) = rowsOf w n (naturals numbers) in
         let there : i < length rows = rw rows-length h in
         let room : n * w ≤ length (naturals numbers) = rw length-naturals (r .room) in
-        (rows-wide w n (naturals numbers) room (getD rows i []) (in-at rows i there) ∙ r .wide, all-at (below shape) rows [] (r .inside) i there)
+        (rows-of-width w n (naturals numbers) room (getD rows i []) (in-at rows i there) ∙ r .wide, all-at (below shape) rows [] (r .inside) i there)
 
     number-under : getD (rowNumbers shape w n numbers) i 0 < 65536
     number-under = rw number-of (number-low shape (r .judged) (getD (rowsOf w n (naturals numbers)) i []) (row-index .0) (row-index .1))

@@ -35,14 +35,6 @@ use Rattle.lists.proofs.Beginning.{length-standing, lent-at, place-insi
 
 -- ---- two numbers
 
-pub larger-second : (x y : ℕ) → x < y → y ≡ larger x y
-larger-second x y h = rw (lt-ltb x y h)
-
-pub larger-first : (x y : ℕ) → y ≤ x → x ≡ larger x y
-larger-first x y h = rw (le-ltb x y h)
-
-pub ruleset larger-laws = (larger-second, larger-first)
-
 pub zero-larger : (x : ℕ) → larger 0 x ≡ x
 zero-larger zero = refl
 zero-larger (suc x) = rw (lt-ltb 0 (suc x) (omega arith))

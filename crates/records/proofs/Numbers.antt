@@ -14,6 +14,7 @@ use lib.Signed.{nonNeg}
 use Rattle.rules.specs.Lists.{all}
 use Rattle.rules.specs.Buffers.{part}
 use Rattle.rules.specs.Layout.{alike}
+use Rattle.rules.proofs.Alike.{alike-test}
 use Rattle.cells.specs.declared.Sign.{Sign}
 use Rattle.cells.specs.declared.Sign.the-variants.{Natural, Negative}
 use Rattle.cells.specs.View.{code, view, Low, signOf, sizeOf}
@@ -108,18 +109,12 @@ pub ruleset smalls = (part-start, small-more, small-fails, all-passed)
 
 -- ---- all are the same
 
--- each is the first
-alike-all : (l : List ℕ) → alike l ≡ all (eqb (getD l 0 0)) l
-unfolding alike all
-alike-all [] = refl
-alike-all (x ∷ l) = rw (eq-eqb x x refl)
-
--- so each number of a part is the one at its start
+-- each number of a part is the one at its start
 alike-part : (a n : ℕ) (s : List ℤ) → alike (part a n (view s)) ≡ all (eqb (getD (view s) a 0)) (part a n (view s))
 unfolding part alike all
 alike-part a zero s = refl
 alike-part a (suc n) s =
-    let e : a + 0 ≡ a = omega arith in alike-all (part a (suc n) (view s)) ∙ rw (row-number a (suc n) 0 s (omega arith), e)
+    let e : a + 0 ≡ a = omega arith in alike-test (part a (suc n) (view s)) ∙ rw (row-number a (suc n) 0 s (omega arith), e)
 
 module _ (a n : ℕ) (s : List ℤ) {k : ℕ} (p : Passed (eqb (getD (view s) a 0)) n k (part a n (view s))) where
   -- the next number is the first one

@@ -21,17 +21,6 @@ use Rattle.cells.specs.View.{signOf}
 use Rattle.records.proofs.Sections.{sign-natural}
 use Rattle.reshape.specs.Permuting.{namesAxes, MovesAre}
 
--- ---- the larger of two numbers
-
-module _ (a b : ℕ) where
-  pub larger-second : a < b → b ≡ larger a b
-  larger-second h = rw (lt-ltb a b h) refl
-
-  pub larger-first : b ≤ a → a ≡ larger a b
-  larger-first h = rw (le-ltb a b h) refl
-
-pub ruleset larger-laws = (larger-second, larger-first)
-
 -- ---- entries that name axes
 
 -- one more in front

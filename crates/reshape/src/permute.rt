@@ -2,7 +2,6 @@
 ghost use mathlib.Core.Path.{_≡_};
 ghost use Prim.Native.Nat.{_≤_};
 ghost use lib.ListN.{length};
-ghost use Rattle.rules.specs.Lists.{larger};
 ghost use Rattle.rules.specs.Record.{layoutIn};
 ghost use Rattle.rules.specs.Permute.{permute};
 ghost use Rattle.records.specs.Sound.{SoundRecord};
@@ -19,16 +18,6 @@ struct Moves {
     named: bool,
     largest: usize,
     places: [usize; 5],
-}
-
-// The larger of two numbers.
-fn larger_of(a: usize, b: usize) -> usize
-    ensures { λ r. ⌜ r ≡ larger a b ⌝ }
-{
-    if a < b {
-        return b;
-    }
-    a
 }
 
 // Where the entries send each axis, the last one first.
@@ -63,7 +52,7 @@ fn moves_of(entries: &[i32]) -> Moves
             };
         }
         places[axis] = k;
-        largest = larger_of(axis, largest);
+        largest = lists::larger(axis, largest);
     }
     Moves {
         named: true,

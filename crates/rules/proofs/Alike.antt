@@ -37,11 +37,15 @@ unfolding alike
 alike-replicate [] e = refl
 alike-replicate (x ∷ l) e = ap (λ (m : List ℕ). x ∷ m) (all-replicate x l e)
 
--- numbers that are alike test as the first one
-pub alike-all : (l : List ℕ) → alike l ≡ true → all (eqb (getD l 0 0)) l ≡ true
+-- numbers are alike if each tests as the first one
+pub alike-test : (l : List ℕ) → alike l ≡ all (eqb (getD l 0 0)) l
 unfolding alike all
-alike-all [] e = refl
-alike-all (x ∷ l) e = true-both (eq-eqb x x refl) e
+alike-test [] = refl
+alike-test (x ∷ l) = rw (eq-eqb x x refl)
+
+-- so those that are alike test as the first one
+pub alike-all : (l : List ℕ) → alike l ≡ true → all (eqb (getD l 0 0)) l ≡ true
+alike-all l e = sym (alike-test l) ∙ e
 
 -- numbers that are alike are each the first one
 pub alike-at : (l : List ℕ) → alike l ≡ true → (k : ℕ) → k < length l → getD l k 0 ≡ getD l 0 0

@@ -2,13 +2,23 @@
 use mathlib.Core.Path.{_≡_, refl}
 use mathlib.Core.Bool.{Bool, true, false}
 use mathlib.Core.List.{List, [], _∷_, List·Memᴰ, List·Memᴰ·head, List·Memᴰ·tail}
-use Prim.Native.Nat.{ℕ, zero, suc, _≤_}
+use Prim.Native.Nat.{ℕ, zero, suc, _<_, _≤_}
 use native.Mathlib.Nat.{le-trans}
 use native.Mathlib.Omega.{arith}
-use borrow.Author.Tests.{ltb-true, ltb-false}
+use borrow.Author.Tests.{lt-ltb, le-ltb, ltb-true, ltb-false}
 use lib.Dec.{ltb}
 use lib.ListN.{getD}
 use Rattle.rules.specs.Lists.{larger, largest}
+
+-- the larger of two numbers is the second where that is larger
+pub larger-second : (x y : ℕ) → x < y → y ≡ larger x y
+larger-second x y h = rw (lt-ltb x y h)
+
+-- otherwise it is the first
+pub larger-first : (x y : ℕ) → y ≤ x → x ≡ larger x y
+larger-first x y h = rw (le-ltb x y h)
+
+pub ruleset larger-laws = (larger-second, larger-first)
 
 -- neither of two is above the larger one, and it is the least such
 pub record Larger (x y z : ℕ) : Type 0 where

@@ -17,7 +17,7 @@ use Rattle.rules.proofs.Order.{ComparedNumbers, under, even, above, com
 use Rattle.rules.proofs.Same.{both-true, neither}
 use Rattle.rules.proofs.Tests.{true-both}
 use Rattle.rules.proofs.Extents.{nonzero-pos, nonzero-cons, nonzero-more-axes, nonzero-swap}
-use Rattle.rules.proofs.Ranges.{from-length, from-at, map-at}
+use Rattle.rules.proofs.Ranges.{from-length, from-at, map-at, map-agree}
 use Rattle.rules.proofs.Largest.{largest-at}
 use Rattle.rules.proofs.Low.{below-at}
 use Rattle.rules.proofs.Changed.{RowBelow}
@@ -89,15 +89,6 @@ moved-below entries r shape n e =
 
 -- ---- the product of the extents
 
--- functions that agree from a on make the same numbers
-map-agree : (f g : ℕ → ℕ) (a n : ℕ) → ((k : ℕ) → a ≤ k → f k ≡ g k) → map f (from a n) ≡ map g (from a n)
-unfolding from
-map-agree f g a zero h = refl
-map-agree f g a (suc n) h =
-    let rest = map-agree f g (suc a) n (λ k i. h k (omega arith)) in
-    let first = h a (omega arith) in
-    cc
-
 -- one number changed to x multiplies to at most x more
 put-product : (p x : ℕ) (f g : ℕ → ℕ) → g p ≡ x → ((k : ℕ) → (p ≡ k → ⊥) → g k ≡ f k) → (a n : ℕ) →
     nonzeroProduct (map g (from a n)) ≤ nonzeroProduct (x ∷ map f (from a n))
@@ -114,7 +105,7 @@ put-product p x f g e h a (suc n) = go (compareNumbers p a) (put-product p x f g
     go (under i) rest = other (λ d. omega arith) rest
     go (above i) rest = other (λ d. omega arith) rest
     go (even d) rest =
-        rw (← d, e, map-agree g f (suc p) n (λ k i. h k (λ q. omega arith)))
+        rw (← d, e, map-agree g f (suc p) n (λ k i l. h k (λ q. omega arith)))
         (nonzero-cons x (map f (from (suc p) n)) (f p ∷ map f (from (suc p) n)) (nonzero-more-axes (f p) (map f (from (suc p) n))))
 
 -- extents 1 multiply to 1

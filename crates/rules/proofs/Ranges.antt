@@ -48,6 +48,15 @@ map-at f [] k d e h = absurd (omega arith)
 map-at f (x ∷ l) zero d e h = refl
 map-at f (x ∷ l) (suc k) d e h = map-at f l k d e (omega arith)
 
+-- functions that agree on n numbers from a on make the same of them
+pub map-agree : {A : Type 0} (f g : ℕ → A) (a n : ℕ) → ((k : ℕ) → a ≤ k → k < a + n → f k ≡ g k) → map f (from a n) ≡ map g (from a n)
+unfolding from
+map-agree f g a zero h = refl
+map-agree f g a (suc n) h =
+    let rest = map-agree f g (suc a) n (λ k i l. h k (omega arith) (omega arith)) in
+    let first = h a (omega arith) (omega arith) in
+    cc
+
 -- rows made of numbers that grow increase, if the row of a smaller number is less
 pub map-increasing : (f : ℕ → List ℕ) → ((i j : ℕ) → i < j → cmpRows (f i) (f j) ≡ Less) → (a n : ℕ) → Increasing (map f (from a n))
 unfolding from

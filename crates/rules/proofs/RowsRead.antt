@@ -6,13 +6,15 @@ use Prim.Native.Nat.{ℕ, zero, suc, _+_, _*_, _≤_, _<_}
 use native.Mathlib.Nat.{zero-mul, suc-mul, add-comm}
 use native.Mathlib.Omega.{arith}
 use lib.IntN.{ℤ, pos, negsuc}
-use lib.ListN.{length, getD, take, drop}
-use lib.Seq.{take-add, take-take, drop-drop}
+use lib.ListN.{length, getD, take, drop, length-drop}
+use lib.Seq.{length-take-le, take-add, take-take, drop-drop}
 use lib.Signed.{nonNeg}
 use Rattle.rules.specs.Lists.{all, gather}
 use Rattle.rules.specs.Buffers.{part}
+use Rattle.rules.specs.RowsInOrder.{Each}
 use Rattle.rules.specs.Record.{natural, naturals, rowsOf}
 use Rattle.rules.proofs.Same.{both-true}
+use Rattle.rules.proofs.Sets.{each-nil, each-cons}
 use Rattle.rules.proofs.Buffers.{part-take}
 
 -- ---- numbers that are not negative
@@ -67,6 +69,15 @@ pub rows-length : (w n : ℕ) (l : List ℕ) → length (rowsOf w n l) ≡ n
 unfolding rowsOf
 rows-length w zero l = refl
 rows-length w (suc n) l = ap suc (rows-length w n (drop w l))
+
+-- where the list is long enough, each has w numbers
+pub rows-of-width : (w n : ℕ) (l : List ℕ) → n * w ≤ length l → Each (λ r. length r ≡ w) (rowsOf w n l)
+unfolding rowsOf
+rows-of-width w zero l h = each-nil _
+rows-of-width w (suc n) l h =
+    let size : suc n * w ≡ w + n * w = omega (arith, suc-mul n w) in
+    let rest : n * w ≤ length (drop w l) = rw length-drop (omega arith) in
+    each-cons (length-take-le w l (omega arith)) (rows-of-width w n (drop w l) rest)
 
 -- row i is the part that starts i rows on
 pub rows-row : (w n i : ℕ) (l : List ℕ) → i < n → getD (rowsOf w n l) i [] ≡ part (i * w) w l

@@ -5,7 +5,7 @@ use Prim.Native.Nat.{ℕ, zero, suc, _+_, _*_, _-_, _^_, _<_, _≤_}
 use native.Mathlib.Nat.{suc-mul, zero-mul, suc-add, zero-add, mul-le-mul-right}
 use native.Mathlib.Omega.{arith}
 use lib.IntN.{ℤ, pos}
-use lib.ListN.{length, getD, take, drop, replicate}
+use lib.ListN.{length, getD, take, drop, replicate, length-drop}
 use lib.Seq.{getD-take, getD-drop, take-take, drop-drop, take-at, drop-at}
 use Rattle.rules.specs.Buffers.{part, put}
 use Rattle.rules.specs.RowsInOrder.{In, Each}
@@ -13,7 +13,7 @@ use Rattle.rules.specs.Record.{rowsOf}
 use Rattle.rules.proofs.Buffers.{length-part, part-put-all}
 use Rattle.rules.proofs.Sets.{each-head, each-tail}
 use Rattle.rules.proofs.Places.{in-at, in-stands}
-use Rattle.rules.proofs.RowsRead.{rows-length, rows-row, rows-cut}
+use Rattle.rules.proofs.RowsRead.{rows-length, rows-of-width, rows-row, rows-cut}
 use Rattle.cells.specs.View.{view}
 use Rattle.cells.proofs.View.{view-length, view-part}
 use Rattle.tables.specs.Rows.{rowAt, rowsAt, HasRow, HasRows}
@@ -88,10 +88,8 @@ module _ (a w n : ℕ) (s : List ℤ) where
 
   -- they have w numbers each, if all of them lie in the slice
   pub rows-wide : a + n * w ≤ length s → Each (λ r. length r ≡ w) (rowsAt a w n s)
-  rows-wide h r m =
-      let k = in-stands m in
-      let inside : k .index < n = rw length-rows at (k .within) in
-      ap length (sym (k .is) ∙ row-of (k .index) inside) ∙ row-length (a + k .index * w) w s (omega (arith, row-ends w inside))
+  unfolding rowsAt
+  rows-wide h = rows-of-width w n (drop a (view s)) (rw (length-drop, view-length) (omega arith))
 
   -- it lies in the slice, with no negative number, if all do
   pub has-row : HasRows a w n s → (i : ℕ) → i < n → HasRow (a + i * w) w s

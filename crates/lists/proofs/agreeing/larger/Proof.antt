@@ -1,6 +1,6 @@
 -- `larger`: by the order of the two.
 use borrow.Author.Needs.{needs}
-use Rattle.lists.proofs.Common.{larger-laws}
+use Rattle.rules.proofs.Largest.{larger-laws}
 use Rattle.lists.proofs.agreeing.larger.Statement.{statement}
 use Rattle.lists.proofs.agreeing.larger.Tie as tie
 

@@ -58,8 +58,8 @@ mul-places c = search (needs, walks)
 array-write-places : tie.Need-array-write-places Inv-loop μ-loop
 array-write-places c = search (needs, walks)
 
-larger-of-requires : tie.Need-larger-of-requires Inv-loop μ-loop
-larger-of-requires c κs = search (needs, walks)
+larger-requires : tie.Need-larger-requires Inv-loop μ-loop
+larger-requires c κs = search (needs, walks)
 
 loop-less : tie.Need-loop-less Inv-loop μ-loop
 loop-less c = search (needs, walks)
@@ -71,7 +71,7 @@ loop-again c =
     let named = small .before .before in
     let signed = named .before .before in
     let more = signed .before in
-    walk-turned (more .before .loop .inv) (more .loop-test .taken) (signed .sign-at .ensures .0) (named .axis .given .1) (small .if1 .left) (c .larger-of .ensures) (new .if2 .left)
+    walk-turned (more .before .loop .inv) (more .loop-test .taken) (signed .sign-at .ensures .0) (named .axis .given .1) (small .if1 .left) (c .larger .ensures) (new .if2 .left)
 
 returns-4 : tie.Need-returns-4 Inv-loop μ-loop
 returns-4 c = search (needs, walks)
@@ -94,7 +94,7 @@ moves-of-spec =
     returns-3
     mul-places
     array-write-places
-    larger-of-requires
+    larger-requires
     loop-less
     loop-again
     returns-4)
