@@ -35,9 +35,7 @@ use Rattle.rules.proofs.MovedBy.{moved-by-length, moved-by-at, moved-by-same}
 use Rattle.cells.specs.View.{view, Low}
 use Rattle.tables.specs.Rows.{rowAt}
 use Rattle.tables.proofs.Rows.{row-number}
-use Rattle.records.specs.Sound.{SoundRecord}
-use Rattle.records.proofs.Layouts.{has-states, has-inputs}
-use Rattle.records.proofs.SoundRecords.{layout-sound, layout-shown}
+use Rattle.records.proofs.SoundRecords.{layout-sound}
 use Rattle.records.proofs.Shown.{deps-low}
 use Rattle.entries.specs.declared.entries.Listed.{Listed}
 use Rattle.entries.specs.declared.entries.Listed.the-variants.{Rows, States, Inputs}

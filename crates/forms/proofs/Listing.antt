@@ -2,18 +2,13 @@
 use mathlib.Core.Path.{_≡_, sym, ap, _∙_}
 use mathlib.Core.Bool.{Bool, true}
 use mathlib.Core.List.{List}
-use Prim.Native.Nat.{ℕ, zero, suc, _+_, _-_, _*_, _≤_}
-use native.Mathlib.Nat.{suc-mul}
-use native.Mathlib.Omega.{arith}
+use Prim.Native.Nat.{ℕ, _+_, _-_}
 use lib.IntN.{ℤ}
-use lib.ListN.{length, take, drop, length-drop}
-use lib.Seq.{length-take-le}
+use lib.ListN.{take, drop}
 use lib.Signed.{nonNeg}
 use Rattle.rules.specs.Lists.{all, allBelow}
 use Rattle.rules.specs.Buffers.{part}
-use Rattle.rules.specs.RowsInOrder.{Each}
 use Rattle.rules.specs.Record.{naturals, rowsOf, shapeIn}
-use Rattle.rules.proofs.Sets.{each-nil, each-cons}
 use Rattle.rules.proofs.RowsRead.{naturals-take, naturals-drop}
 use Rattle.tables.specs.Rows.{rowsAt}
 use Rattle.tables.proofs.Rows.{lent-row}

@@ -1,5 +1,5 @@
 -- How a broadcast of a list of records ends. Assumes nothing.
-use mathlib.Core.Path.{_≡_, refl, sym, ap, _∙_}
+use mathlib.Core.Path.{_≡_, sym, ap, _∙_}
 use mathlib.Core.Bool.{Bool, true, false, not, _||_}
 use mathlib.Core.List.{List, [], _∷_, map}
 use Prim.Native.Nat.{ℕ}
@@ -66,15 +66,16 @@ module _ (s : List ℤ) (count : ℤ) (operator : ℕ) (result work : List ℤ) 
   call = lowest (sizeReasons told (length result) (length work) (3 when not good ∷ [])) then λ _. gives
 
   -- 1 or 2
-  module _ {a b o : Bool} (a-is : a ≡ overCount count) (b-is : b ≡ any overRecord (recordsIn count s)) (o-is : o ≡ a || b) {r : Sizes} (sizes : SizesAre o (length result) (length work) r) where
+  module _ {a b o : Bool} (a-is : a ≡ overCount count) (b-is : b ≡ any overRecord (recordsIn count s)) (o-is : o ≡ a || b) where
     o-told : o ≡ told
     o-told = told-either (overCount count) (any overRecord (recordsIn count s)) a-is b-is o-is
 
-    pub broadcast-early : {why : Refusal} → r ≡ Refused why → Ends (inForm encode call) result work (NotWritten why) result work
-    broadcast-early e = list-early told good [] gives result work o-told sizes e
+    module _ {r : Sizes} (sizes : SizesAre o (length result) (length work) r) where
+      pub broadcast-early : {why : Refusal} → r ≡ Refused why → Ends (inForm encode call) result work (NotWritten why) result work
+      broadcast-early e = list-early told good [] gives result work o-told sizes e
 
-    pub broadcast-kept : r ≡ Kept → SizesKept told (length result) (length work)
-    broadcast-kept e = kept-told o-told sizes e
+      pub broadcast-kept : r ≡ Kept → SizesKept told (length result) (length work)
+      broadcast-kept e = kept-told o-told sizes e
 
   module _ (k : SizesKept told (length result) (length work)) (n : ℕ) (places : List ℕ) (are : standing n places s ≡ recordsIn count s) {t : Bool} (t-is : t ≡ all sound (standing n places s)) where
     good-told : good ≡ t

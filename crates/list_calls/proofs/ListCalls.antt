@@ -1,6 +1,6 @@
 -- How a call on a list ends that is lent a result and a working buffer: over whatever is over its limit, the test whether all records are
 -- sound, any reasons behind 3 and any verdict of its step, which is lent the window. Assumes nothing.
-use mathlib.Core.Path.{_≡_, refl, sym, _∙_}
+use mathlib.Core.Path.{_≡_, _∙_}
 use mathlib.Core.Bool.{Bool, true, false, not}
 use mathlib.Core.List.{List, _∷_}
 use Prim.Native.Nat.{ℕ, _+_, _≤_}
@@ -25,7 +25,7 @@ use Rattle.parts.proofs.Ending.{AboveTwo, Late}
 use Rattle.parts.proofs.Lent.{lentOf, backIn, back-says}
 use Rattle.parts.proofs.Windows.{window-only}
 use Rattle.judging.specs.declared.Sizes.{Sizes}
-use Rattle.judging.specs.declared.Sizes.the-variants.{Kept, Refused}
+use Rattle.judging.specs.declared.Sizes.the-variants.{Refused}
 use Rattle.judging.specs.LentSizes.{sizeReasons, SizesKept, SizesAre}
 use Rattle.judging.proofs.Judged.{reason-holds, reason-passed}
 use Rattle.judging.proofs.LentSizes.{refused-told}
@@ -48,7 +48,7 @@ module _ (told good : Bool) (more : List Reason) (v : Verdict Layout) (result wo
     -- the window came back from the step
     pub list-says : (at : ℕ) → at + partSize ≤ windowSize → {step : Step} {w : List ℤ} → length w ≡ length (lentOf 0 windowSize work) → Says v at w step →
         Says v at (backIn 0 windowSize work w) step
-    list-says at inside {w = w} same says = back-says 0 windowSize work (omega arith) (omega (arith, k .work-long)) w same at at refl inside says
+    list-says at inside {w = w} same says = back-says 0 windowSize work (omega arith) (omega (arith, k .work-long)) w same at at (omega arith) inside says
 
     module _ (late : Reasons AboveTwo more) where
       -- 3: not all records are sound

@@ -1,5 +1,4 @@
 // A layout with its axes moved: each axis goes where its entry says.
-ghost use mathlib.Core.Path.{_≡_};
 ghost use Prim.Native.Nat.{_≤_};
 ghost use lib.ListN.{length};
 ghost use Rattle.rules.specs.Record.{layoutIn};

@@ -12,7 +12,7 @@ use Rattle.rules.specs.RowsInOrder.{In, Each}
 use Rattle.rules.specs.Record.{rowsOf}
 use Rattle.rules.proofs.Buffers.{length-part, part-put-all}
 use Rattle.rules.proofs.Sets.{each-head, each-tail}
-use Rattle.rules.proofs.Places.{in-at, in-stands}
+use Rattle.rules.proofs.Places.{in-at}
 use Rattle.rules.proofs.RowsRead.{rows-length, rows-of-width, rows-row, rows-cut}
 use Rattle.cells.specs.View.{view}
 use Rattle.cells.proofs.View.{view-length, view-part}
