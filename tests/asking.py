@@ -87,5 +87,5 @@ def program(name):
 
 
 def printed(name, text):
-    """What a program of the port prints for a text."""
-    return subprocess.run(program(name), input=text.encode(), capture_output=True, cwd=ROOT, check=True).stdout.decode()
+    """What a program of the port prints for a text; one that crashes, or does not end in a minute, ends the test as a failure."""
+    return subprocess.run(program(name), input=text.encode(), capture_output=True, cwd=ROOT, check=True, timeout=60).stdout.decode()
