@@ -16,10 +16,14 @@ REFUSALS = {
     12: (1, 2, 3), 13: (1, 2, 5), 14: (2,), 15: (1, 2, 5), 16: (1, 2, 5, 12), 17: (1, 2, 5, 12, 13), 18: (1, 2, 3),
     19: (1, 2, 3, 5, 6, 11, 12, 13), 20: (1, 2, 3, 5, 6, 11), 22: (1, 2, 3, 6, 11, 12, 13), 23: (1, 2, 3, 4, 6, 11, 12, 13),
     24: (1, 2, 3, 7), 25: (1, 2, 3, 8, 11, 12), 26: (1, 2, 3, 6, 9, 11, 12, 13), 27: (1, 2, 3, 5, 10, 12, 13),
-    28: (1, 2, 3, 5, 10, 12), 29: (), 30: (), 31: (),
+    28: (1, 2, 3, 5, 10, 12), 29: (), 30: (), 31: (), 32: (1, 2, 3, 5, 6, 11, 12, 13), 33: (1, 2, 3, 5, 6, 11),
+    34: (1, 2, 3, 5, 6, 9, 11, 12, 13),
 }
 # the operations that the port has: to be answered, and never with `unknown`
 IN_PORT = tuple(REFUSALS)
+# the later requests that are in force, and the operations that came with them
+LANDED = 'Q-1'
+LATER = (32, 33, 34)
 
 
 def need_rust():
@@ -33,7 +37,7 @@ def need_rust():
 def lines(words, requests=None, cwd=ROOT):
     """The lines that a program writes, for requests if there are any."""
     text = None if requests is None else ''.join(request + '\n' for request in requests)
-    run = subprocess.run(words, input=text, stdout=subprocess.PIPE, text=True, cwd=cwd)
+    run = subprocess.run(words, input=text, stdout=subprocess.PIPE, text=True, cwd=cwd, env=dict(os.environ, LANDED=LANDED))
     if run.returncode:
         sys.exit('not run: %s ended with %d' % (' '.join(words), run.returncode))
     answers = run.stdout.splitlines()
@@ -42,9 +46,16 @@ def lines(words, requests=None, cwd=ROOT):
     return answers
 
 
-def generated(seed, count, operations=()):
-    """So many requests of a seed, of all operations or of those named."""
-    return lines(['python3', 'requests.py', str(seed), str(count)] + [str(op) for op in operations], cwd=READING)
+def generated(seed, count, operations=tuple(op for op in IN_PORT if op not in LATER)):
+    """So many requests of a seed, of the operations named, or of all but those that came later."""
+    later = [op for op in operations if op in LATER]
+    behind = int(count) * len(later) // len(operations)
+    return made('requests.py', seed, int(count) - behind, [op for op in operations if op not in LATER]) + made('later.py', seed, behind, later)
+
+
+def made(generator, seed, count, operations):
+    """So many requests of a seed and of the operations named, which one generator knows; none where none is named."""
+    return lines(['python3', generator, str(seed), str(count)] + [str(op) for op in operations], cwd=READING) if operations else []
 
 
 def edge_requests(operations=REFUSALS):

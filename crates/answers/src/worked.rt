@@ -106,7 +106,7 @@ fn of_one(
     }
 }
 
-// The same for a list of records or blocks; unknown if the operation is none of these.
+// The same for a list of records or blocks.
 fn of_list(
     request: &[i32],
     at: [usize; 7],
@@ -129,8 +129,56 @@ fn of_list(
             work,
             out,
         ),
+        _ => of_mode(request, at, result, work, out),
+    }
+}
+
+// The same with a mode of stretching; unknown if the operation is none of these.
+fn of_mode(
+    request: &[i32],
+    at: [usize; 7],
+    result: &mut [i32],
+    work: &mut [i32],
+    out: &mut [u8],
+) -> usize {
+    let first = list(request, at[0]);
+    let mode = number(request, at[2]);
+    match number(request, 0) {
+        32 => ended(
+            layout::broadcast_to_shape_with_mode(first, list(request, at[1]), mode, result, work),
+            result,
+            work,
+            out,
+        ),
+        33 => ended(
+            layout::broadcast_to_rank_with_mode(first, number(request, at[1]), mode, result, work),
+            result,
+            work,
+            out,
+        ),
+        34 => of_operator(request, at, result, work, out),
         _ => replies::word(b"unknown", out, 0),
     }
+}
+
+// The same for a list of records with an operator and a mode.
+fn of_operator(
+    request: &[i32],
+    at: [usize; 7],
+    result: &mut [i32],
+    work: &mut [i32],
+    out: &mut [u8],
+) -> usize {
+    let things = list(request, at[0]);
+    let count = number(request, at[1]);
+    let operator = byte(request, at[2]);
+    let mode = number(request, at[3]);
+    ended(
+        layout::broadcast_with_mode(things, count, operator, mode, result, work),
+        result,
+        work,
+        out,
+    )
 }
 
 // What a call wrote, and whether it left the buffers well.

@@ -6,6 +6,7 @@ use Prim.Native.Nat.{ℕ, _≤_}
 use lib.IntN.{ℤ}
 use lib.Dec.{eqb}
 use lib.ListN.{length}
+use Rattle.rules.specs.declared.Mode.{Mode}
 use Rattle.rules.specs.declared.Rule.{Rule}
 use Rattle.rules.specs.declared.Step.{Step}
 use Rattle.rules.specs.declared.Step.the-variants.{Done}
@@ -46,6 +47,6 @@ pub record Folded (v : Verdict Layout) (s : List ℤ) (step : Step) : Type 0 whe
   pub says : Says v left s step
   pub ready : step ≡ Done → LeftReady s
 
--- all stretched to a shape, folded from the last, and ended
-unfoldable pub broadcastTo : List ℕ → List Layout → Rule → Verdict Layout
-broadcastTo shape layouts rule = stretchAll shape layouts then λ all. foldBack rule (reverse all) then λ l. endOfBroadcast l
+-- all stretched in a mode to a shape, folded from the last, and ended
+unfoldable pub broadcastTo : Mode → List ℕ → List Layout → Rule → Verdict Layout
+broadcastTo mode shape layouts rule = stretchAll mode shape layouts then λ all. foldBack rule (reverse all) then λ l. endOfBroadcast l

@@ -4,6 +4,7 @@ use mathlib.Core.List.{List, [], map}
 use Prim.Native.Nat.{ℕ, _<_, _≤_}
 use lib.IntN.{ℤ, pos}
 use lib.ListN.{getD}
+use Rattle.rules.specs.declared.Mode.{Mode}
 use Rattle.rules.specs.declared.Step.{Step}
 use Rattle.rules.specs.declared.Step.the-variants.{Done, Refused}
 use Rattle.rules.specs.Refusals.{Verdict, given, refused, inForm, numberOf}
@@ -45,13 +46,13 @@ pub record StretchAsked (shape : Shape) (from : List ℤ) : Type 0 where
   pub source : JudgedRecord from
   pub fits : ShapeFits shape
 
--- the layout of a record, stretched
-abbrev pub stretchedTo : Shape → List ℤ → Layout
-stretchedTo shape from = stretched (layoutIn from) (extentsOf shape)
+-- the layout of a record, stretched in a mode
+abbrev pub stretchedTo : Mode → Shape → List ℤ → Layout
+stretchedTo mode shape from = stretched mode (layoutIn from) (extentsOf shape)
 
 -- and whether it may be
-abbrev pub stretching : Shape → List ℤ → Verdict Layout
-stretching shape from = broadcastToShape (layoutIn from) (extentsOf shape)
+abbrev pub stretching : Mode → Shape → List ℤ → Verdict Layout
+stretching mode shape from = broadcastToShape mode (layoutIn from) (extentsOf shape)
 
 -- a step tells whether something is refused, whatever it gives
 abbrev pub told : Step → Verdict Unit
@@ -62,9 +63,9 @@ abbrev pub whether : {A : Type 0} → Verdict A → Verdict Unit
 whether v = inForm (λ _. tt) v
 
 -- a record that may be stretched
-pub record BringAsked (shape : Shape) (from : List ℤ) : Type 0 where
+pub record BringAsked (mode : Mode) (shape : Shape) (from : List ℤ) : Type 0 where
   pub asked : StretchAsked shape from
-  pub given-is : stretching shape from ≡ given (stretchedTo shape from)
+  pub given-is : stretching mode shape from ≡ given (stretchedTo mode shape from)
 
 -- a layout stands in the part
 pub record Brought (l : Layout) (s : List ℤ) : Type 0 where
@@ -80,11 +81,11 @@ pub record AllAsked (shape : Shape) (n : ℕ) (places : List ℕ) (s : List ℤ)
   pub fits : ShapeFits shape
 
 -- and may be
-pub record AllBringable (shape : Shape) (n : ℕ) (places : List ℕ) (s : List ℤ) : Type 0 where
+pub record AllBringable (mode : Mode) (shape : Shape) (n : ℕ) (places : List ℕ) (s : List ℤ) : Type 0 where
   pub some : 0 < n
   pub inside : Inside n places s
-  pub each : (i : ℕ) → i < n → BringAsked shape (getD (standing n places s) i [])
+  pub each : (i : ℕ) → i < n → BringAsked mode shape (getD (standing n places s) i [])
 
 -- the layouts of all of them, stretched
-abbrev pub allStretched : Shape → ℕ → List ℕ → List ℤ → List Layout
-allStretched shape n places s = map (λ l. stretched l (extentsOf shape)) (layoutsAt n places s)
+abbrev pub allStretched : Mode → Shape → ℕ → List ℕ → List ℤ → List Layout
+allStretched mode shape n places s = map (λ l. stretched mode l (extentsOf shape)) (layoutsAt n places s)

@@ -22,6 +22,7 @@ use parts::RANK;
 use parts::RIGHT;
 use parts::ROWS;
 use parts::TARGET;
+use rules::Mode;
 use rules::Refusal;
 use rules::Rule;
 use rules::Step;
@@ -115,16 +116,17 @@ fn fold_next(first: bool, rule: Rule, window: &mut [i32]) -> Step
 }
 
 // The record at a place goes into the left part, stretched.
-fn bring_left(layouts: &[i32], at: usize, shape: Shape, window: &mut [i32])
-    requires { ⌜ (at ≤ length (now layouts)) × BringAsked shape (drop at (now layouts)) ⌝ }
+fn bring_left(mode: Mode, layouts: &[i32], at: usize, shape: Shape, window: &mut [i32])
+    requires { ⌜ (at ≤ length (now layouts)) × BringAsked mode shape (drop at (now layouts)) ⌝ }
     requires { ⌜ windowSize ≤ length (now window) ⌝ }
-    ensures { λ _. ⌜ LeftIs (stretchedTo shape (drop at (now (layouts .entry)))) (now (window .exit)) ⌝ }
+    ensures { λ _. ⌜ LeftIs (stretchedTo mode shape (drop at (now (layouts .entry)))) (now (window .exit)) ⌝ }
 {
-    bring(&layouts[at..], shape, &mut window[LEFT..RIGHT]);
+    bring(mode, &layouts[at..], shape, &mut window[LEFT..RIGHT]);
 }
 
 // The record at a place goes into the right part, stretched, and is folded onto the left one.
 fn fold_onto(
+    mode: Mode,
     first: bool,
     rule: Rule,
     layouts: &[i32],
@@ -132,16 +134,17 @@ fn fold_onto(
     shape: Shape,
     window: &mut [i32],
 ) -> Step
-    requires { ⌜ (at ≤ length (now layouts)) × BringAsked shape (drop at (now layouts)) ⌝ }
+    requires { ⌜ (at ≤ length (now layouts)) × BringAsked mode shape (drop at (now layouts)) ⌝ }
     requires { ⌜ LeftReady (now window) ⌝ }
-    ensures { λ r. ⌜ Folded (foldOne first rule (layoutAt left (now (window .entry))) (stretchedTo shape (drop at (now (layouts .entry))))) (now (window .exit)) r ⌝ }
+    ensures { λ r. ⌜ Folded (foldOne first rule (layoutAt left (now (window .entry))) (stretchedTo mode shape (drop at (now (layouts .entry))))) (now (window .exit)) r ⌝ }
 {
-    bring(&layouts[at..], shape, &mut window[RIGHT..TARGET]);
+    bring(mode, &layouts[at..], shape, &mut window[RIGHT..TARGET]);
     fold_next(first, rule, window)
 }
 
 // n records, which may be stretched to the shape, are folded from the last; the layout that comes out stands in the left part.
 pub fn fold_all(
+    mode: Mode,
     layouts: &[i32],
     places: [usize; 16],
     n: usize,
@@ -149,16 +152,16 @@ pub fn fold_all(
     rule: Rule,
     window: &mut [i32],
 ) -> Step
-    requires { ⌜ AllBringable shape n places (now layouts) ⌝ }
+    requires { ⌜ AllBringable mode shape n places (now layouts) ⌝ }
     requires { ⌜ windowSize ≤ length (now window) ⌝ }
-    ensures { λ r. ⌜ Says (foldBack rule (reverse (allStretched shape n places (now (layouts .entry))))) left (now (window .exit)) r ⌝ }
+    ensures { λ r. ⌜ Says (foldBack rule (reverse (allStretched mode shape n places (now (layouts .entry))))) left (now (window .exit)) r ⌝ }
 {
     let mut k = n - 1;
     let mut first = true;
-    bring_left(layouts, places[k], shape, window);
+    bring_left(mode, layouts, places[k], shape, window);
     while 0 < k {
         k -= 1;
-        if let Step::Refused(why) = fold_onto(first, rule, layouts, places[k], shape, window) {
+        if let Step::Refused(why) = fold_onto(mode, first, rule, layouts, places[k], shape, window) {
             return Step::Refused(why);
         }
         first = false;

@@ -20,13 +20,15 @@ use ending::end;
 use folding::fold_all;
 use parts::LEFT;
 use parts::RIGHT;
+use rules::Mode;
 use rules::Number;
 use rules::Rule;
 use rules::Step;
 use stretching::judge_all;
 
-// The records are stretched to a shape, folded and ended; the layout that comes out stands in the left part.
+// The records are stretched in a mode to a shape, folded and ended; the layout that comes out stands in the left part.
 fn stretch_and_fold(
+    mode: Mode,
     layouts: &[i32],
     places: [usize; 16],
     n: usize,
@@ -36,19 +38,20 @@ fn stretch_and_fold(
 ) -> Step
     requires { ⌜ AllAsked shape n places (now layouts) × (0 < n) ⌝ }
     requires { ⌜ windowSize ≤ length (now window) ⌝ }
-    ensures { λ r. ⌜ Says (broadcastTo (extentsOf shape) (layoutsAt n places (now (layouts .entry))) rule) left (now (window .exit)) r ⌝ }
+    ensures { λ r. ⌜ Says (broadcastTo mode (extentsOf shape) (layoutsAt n places (now (layouts .entry))) rule) left (now (window .exit)) r ⌝ }
 {
-    if let Step::Refused(why) = judge_all(layouts, places, n, shape, &mut window[LEFT..RIGHT]) {
+    if let Step::Refused(why) = judge_all(mode, layouts, places, n, shape, &mut window[LEFT..RIGHT]) {
         return Step::Refused(why);
     }
-    if let Step::Refused(why) = fold_all(layouts, places, n, shape, rule, window) {
+    if let Step::Refused(why) = fold_all(mode, layouts, places, n, shape, rule, window) {
         return Step::Refused(why);
     }
     end(&mut window[LEFT..RIGHT])
 }
 
-// The records of a list are broadcast: the layout that comes out stands in the left part.
+// The records of a list are broadcast in a mode: the layout that comes out stands in the left part.
 pub fn broadcast_in(
+    mode: Mode,
     layouts: &[i32],
     places: [usize; 16],
     n: usize,
@@ -57,7 +60,7 @@ pub fn broadcast_in(
 ) -> Step
     requires { ⌜ EachAt JudgedRecord n places (now layouts) ⌝ }
     requires { ⌜ windowSize ≤ length (now window) ⌝ }
-    ensures { λ r. ⌜ Says (broadcast (layoutsAt n places (now (layouts .entry))) rule) left (now (window .exit)) r ⌝ }
+    ensures { λ r. ⌜ Says (broadcast mode (layoutsAt n places (now (layouts .entry))) rule) left (now (window .exit)) r ⌝ }
 {
     let common = common_shape(layouts, places, n);
     let count = common.count;
@@ -65,7 +68,7 @@ pub fn broadcast_in(
         Number::Is(rank) => {
             let numbers = common.numbers;
             let shape = as_shape(rank, numbers);
-            stretch_and_fold(layouts, places, n, shape, rule, window)
+            stretch_and_fold(mode, layouts, places, n, shape, rule, window)
         }
         Number::Refused(why) => Step::Refused(why),
     }

@@ -1,4 +1,4 @@
-// Records stretched to a shape: all are judged in list order, and later each is brought into a part when its turn comes. Each was judged sound
+// Records stretched in a mode to a shape: all are judged in list order, and later each is brought into a part when its turn comes. Each was judged sound
 // before, so that it can be walked.
 ghost use mathlib.Core.Path.{_≡_};
 ghost use mathlib.Core.Bool.{_&&_};
@@ -13,6 +13,7 @@ ghost use Rattle.lists.specs.Records.{layoutsAt};
 ghost use Rattle.fold.specs.Stretched.{extentsOf, ShapeFits, StretchAsked, BringAsked, AllAsked, Brought, stretchedTo, stretching, told, whether};
 use super::agreeing::Shape;
 use rules::Head;
+use rules::Mode;
 use rules::Refusal;
 use rules::Step;
 use rules::Walk;
@@ -30,10 +31,10 @@ fn has_shape(from: &[i32], head: Head, shape: Shape) -> bool
 }
 
 // Whether the record may be stretched to the shape; one that has it already may, and nothing is done for it.
-fn judge(from: &[i32], shape: Shape, part: &mut [i32]) -> Step
+fn judge(mode: Mode, from: &[i32], shape: Shape, part: &mut [i32]) -> Step
     requires { ⌜ StretchAsked shape (now from) ⌝ }
     requires { ⌜ partSize ≤ length (now part) ⌝ }
-    ensures { λ r. ⌜ told r ≡ whether (stretching shape (now (from .entry))) ⌝ }
+    ensures { λ r. ⌜ told r ≡ whether (stretching mode shape (now (from .entry))) ⌝ }
 {
     let Walk::To(head) = records::walk_record(from) else {
         return Step::Refused(Refusal::Unsound);
@@ -42,11 +43,12 @@ fn judge(from: &[i32], shape: Shape, part: &mut [i32]) -> Step
         return Step::Done;
     }
     let extents = shape.extents;
-    stretch::stretch_into(from, head, &extents, 0, shape.rank, part)
+    stretch::stretch_into(mode, from, head, &extents, 0, shape.rank, part)
 }
 
 // Whether each of n records may be stretched to the shape, in list order: the first that may not says why.
 pub fn judge_all(
+    mode: Mode,
     layouts: &[i32],
     places: [usize; 16],
     n: usize,
@@ -55,11 +57,11 @@ pub fn judge_all(
 ) -> Step
     requires { ⌜ AllAsked shape n places (now layouts) ⌝ }
     requires { ⌜ partSize ≤ length (now part) ⌝ }
-    ensures { λ r. ⌜ told r ≡ whether (stretchAll (extentsOf shape) (layoutsAt n places (now (layouts .entry)))) ⌝ }
+    ensures { λ r. ⌜ told r ≡ whether (stretchAll mode (extentsOf shape) (layoutsAt n places (now (layouts .entry)))) ⌝ }
 {
     for i in 0..n {
         let at = places[i];
-        if let Step::Refused(why) = judge(&layouts[at..], shape, part) {
+        if let Step::Refused(why) = judge(mode, &layouts[at..], shape, part) {
             return Step::Refused(why);
         }
     }
@@ -78,10 +80,10 @@ fn is_unchanged(from: &[i32], head: Head, shape: Shape) -> bool
 }
 
 // A record that may be stretched to the shape goes into the part, stretched. That it may was judged before, so that the step is done.
-pub fn bring(from: &[i32], shape: Shape, part: &mut [i32])
-    requires { ⌜ BringAsked shape (now from) ⌝ }
+pub fn bring(mode: Mode, from: &[i32], shape: Shape, part: &mut [i32])
+    requires { ⌜ BringAsked mode shape (now from) ⌝ }
     requires { ⌜ partSize ≤ length (now part) ⌝ }
-    ensures { λ _. ⌜ Brought (stretchedTo shape (now (from .entry))) (now (part .exit)) ⌝ }
+    ensures { λ _. ⌜ Brought (stretchedTo mode shape (now (from .entry))) (now (part .exit)) ⌝ }
 {
     let Walk::To(head) = records::walk_record(from) else {
         return;
@@ -91,5 +93,5 @@ pub fn bring(from: &[i32], shape: Shape, part: &mut [i32])
         return;
     }
     let extents = shape.extents;
-    stretch::stretch_into(from, head, &extents, 0, shape.rank, part);
+    stretch::stretch_into(mode, from, head, &extents, 0, shape.rank, part);
 }

@@ -1,14 +1,16 @@
--- A shape beside a result, two records, and a range, judged.
+-- A shape beside a result, two records, a range and a mode, judged.
 use mathlib.Core.Path.{_≡_}
 use mathlib.Core.Bool.{true, false, not, _&&_, _||_}
 use mathlib.Core.List.{List, [], _∷_}
 use Prim.Native.Nat.{ℕ, _≤_}
 use lib.IntN.{ℤ}
 use Rattle.rules.specs.declared.Head.{Head}
+use Rattle.rules.specs.declared.Mode.{Mode}
 use Rattle.rules.specs.Limits.{resultSize}
 use Rattle.rules.specs.Refusals.{given, refused, numberOf, Reason, _when_, lowest}
 use Rattle.rules.specs.Record.{natural, sound, goodShape}
-use Rattle.rules.specs.Arguments.{overRecord, overShape, shortResult, goodEnd}
+use Rattle.rules.specs.Arguments.{overRecord, overShape, shortResult, goodEnd, goodMode}
+use Rattle.rules.specs.Stretching.{modeOf}
 use Rattle.records.specs.Sound.{SoundRecord}
 use Rattle.shapes.specs.Judged.{Judged}
 use Rattle.judging.specs.declared.Shape.{Shape}
@@ -17,6 +19,8 @@ use Rattle.judging.specs.declared.Pair.{Pair}
 use Rattle.judging.specs.declared.Pair.the-variants.{Sound, Refused as NoPair}
 use Rattle.judging.specs.declared.Range.{Range}
 use Rattle.judging.specs.declared.Range.the-variants.{Within, Wrong}
+use Rattle.judging.specs.declared.ModeAsked.{ModeAsked}
+use Rattle.judging.specs.declared.ModeAsked.the-variants.{Is, Wrong as NoMode}
 
 -- ---- a shape
 
@@ -61,3 +65,14 @@ pub record RangeGood (start end : ℤ) (from to : ℕ) : Type 0 where
 abbrev pub RangeIs : ℤ → ℤ → Range → Type 0
 RangeIs start end (Within from to) = RangeGood start end from to
 RangeIs start end Wrong = goodEnd start && goodEnd end ≡ false
+
+-- ---- a mode of stretching
+
+-- a number that names a mode
+pub record ModeGood (number : ℤ) (mode : Mode) : Type 0 where
+  pub good : goodMode number ≡ true
+  pub is : mode ≡ modeOf number
+
+abbrev pub ModeIs : ℤ → ModeAsked → Type 0
+ModeIs number (Is mode) = ModeGood number mode
+ModeIs number NoMode = goodMode number ≡ false

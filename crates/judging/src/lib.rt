@@ -4,9 +4,10 @@ ghost use mathlib.Core.Path.{_≡_};
 ghost use mathlib.Core.Bool.{_||_};
 ghost use Rattle.rules.specs.Arguments.{overRank};
 ghost use Rattle.judging.specs.LentSizes.{SizesAre};
-ghost use Rattle.judging.specs.Judging.{ShapeIs, PairIs, RangeIs};
+ghost use Rattle.judging.specs.Judging.{ShapeIs, PairIs, RangeIs, ModeIs};
 use cells::Sign;
 use rules::Head;
+use rules::Mode;
 use rules::Refusal;
 use rules::Walk;
 
@@ -31,6 +32,12 @@ pub enum Pair {
 // The start and the end of a range, or that one of them is wrong.
 pub enum Range {
     Within(usize, usize),
+    Wrong,
+}
+
+// A mode of stretching, or that a number names none.
+pub enum ModeAsked {
+    Is(Mode),
     Wrong,
 }
 
@@ -122,4 +129,20 @@ pub fn judge_range(start: i32, end: i32) -> Range
         return Range::Wrong;
     }
     Range::Within(from, to)
+}
+
+// A mode of stretching: 0 and 1 name one.
+pub fn judge_mode(mode: i32) -> ModeAsked
+    ensures { λ r. ⌜ ModeIs mode r ⌝ }
+{
+    let Sign::Natural(number) = cells::sign_of(mode) else {
+        return ModeAsked::Wrong;
+    };
+    if number == 0 {
+        return ModeAsked::Is(Mode::Alone);
+    }
+    if number == 1 {
+        return ModeAsked::Is(Mode::Together);
+    }
+    ModeAsked::Wrong
 }

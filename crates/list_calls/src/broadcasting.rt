@@ -4,7 +4,8 @@ ghost use lib.ListN.{length};
 ghost use Rattle.rules.specs.Refusals.{inForm};
 ghost use Rattle.rules.specs.Layout.{encode};
 ghost use Rattle.rules.specs.Endings.{Ends};
-ghost use Rattle.rules.specs.Broadcast.{ruleOf, broadcastCall};
+ghost use Rattle.rules.specs.Broadcast.{ruleOf, broadcastCall, broadcastWithModeCall};
+use judging::ModeAsked;
 use judging::Sizes;
 use lists::Thing;
 use rules::Refusal;
@@ -22,16 +23,17 @@ fn rule_of(operator: u8) -> Rule
     }
 }
 
-// As many records as `count` says, end to end, are stretched to their common shape and folded by an operator; what comes out goes to
-// the result.
-pub fn broadcast(
+// As many records as `count` says, end to end, are stretched in a mode, 0 or 1, to their common shape and folded by an operator; what comes
+// out goes to the result.
+pub fn broadcast_with_mode(
     layouts: &[i32],
     count: i32,
     operator: u8,
+    mode: i32,
     result: &mut [i32],
     work: &mut [i32],
 ) -> Written
-    ensures { λ r. ⌜ Ends (inForm encode (broadcastCall (now (layouts .entry)) count operator (length (now (result .entry))) (length (now (work .entry))))) (now (result .entry)) (now (work .entry)) r (now (result .exit)) (now (work .exit)) ⌝ }
+    ensures { λ r. ⌜ Ends (inForm encode (broadcastWithModeCall (now (layouts .entry)) count operator mode (length (now (result .entry))) (length (now (work .entry))))) (now (result .entry)) (now (work .entry)) r (now (result .exit)) (now (work .exit)) ⌝ }
 {
     let n = shapes::list_count(count);
     let places = lists::places(Thing::Record, layouts, n);
@@ -45,7 +47,24 @@ pub fn broadcast(
     if !lists::all_sound(layouts, places, n) {
         return parts::refuse(Refusal::Unsound, work);
     }
+    let ModeAsked::Is(way) = judging::judge_mode(mode) else {
+        return parts::refuse(Refusal::WrongArgument, work);
+    };
     let rule = rule_of(operator);
-    let step = fold::broadcast_in(layouts, places, n, rule, &mut work[0..parts::WINDOW]);
+    let step = fold::broadcast_in(way, layouts, places, n, rule, &mut work[0..parts::WINDOW]);
     parts::finish(step, work, parts::LEFT, result)
+}
+
+// As many records as `count` says, end to end, are stretched to their common shape, each axis alone, and folded by an operator; what comes
+// out goes to the result.
+pub fn broadcast(
+    layouts: &[i32],
+    count: i32,
+    operator: u8,
+    result: &mut [i32],
+    work: &mut [i32],
+) -> Written
+    ensures { λ r. ⌜ Ends (inForm encode (broadcastCall (now (layouts .entry)) count operator (length (now (result .entry))) (length (now (work .entry))))) (now (result .entry)) (now (work .entry)) r (now (result .exit)) (now (work .exit)) ⌝ }
+{
+    broadcast_with_mode(layouts, count, operator, 0, result, work)
 }

@@ -16,8 +16,10 @@ pub fn form(operation: i32) -> [u8; 6] {
         19 | 22 | 23 | 25 => *b"SSnn  ",
         20 => *b"Snnn  ",
         24 => *b"Snn   ",
-        26 | 27 => *b"Snnnn ",
+        26 | 27 | 33 => *b"Snnnn ",
         28 => *b"SSnnnn",
+        32 => *b"SSnnn ",
+        34 => *b"Snnnnn",
         _ => *b"?     ",
     }
 }

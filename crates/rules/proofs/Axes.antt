@@ -86,6 +86,11 @@ module _ (old new : List ℕ) where
       let h = kept-only (isStretched old new) (below (length new)) m in
       (omega (arith, from-only 0 (length new) (h .0)), h .1)
 
+  -- each stretched axis of the new shape is there
+  pub stretched-has : {k : ℕ} → k < length new → isStretched old new k ≡ true → List·Memᴰ k (stretchedAxes old new)
+  unfolding stretchedAxes
+  stretched-has {k} h e = kept-has (isStretched old new) (from-has 0 (length new) (omega arith) (omega arith)) e
+
   -- a stretched axis that is shared had extent 1
   pub stretched-one : {k : ℕ} → k < length old → isStretched old new k ≡ true → getD old k 0 ≡ 1
   stretched-one {k} h e = eqb-true (getD old k 0) 1 (both-true (eqb (getD old k 0) 1) (not (eqb (getD new k 0) 1)) (rw (lt-leb (length old) k h) at e) .0)
@@ -123,9 +128,7 @@ module _ (l : Layout) (shape : List ℕ) where
 
   -- each such axis is there
   pub is-row-axis : {k : ℕ} → k < width l → k < length shape → isStretched (l .shape) shape k ≡ true → List·Memᴰ k (rowAxes l shape)
-  unfolding stretchedAxes
-  is-row-axis {k} h g e =
-      kept-has (λ axis. ltb axis (width l)) (kept-has (isStretched (l .shape) shape) (from-has 0 (length shape) (omega arith) (omega arith)) e) (lt-ltb k (width l) h)
+  is-row-axis {k} h g e = kept-has (λ axis. ltb axis (width l)) (stretched-has (l .shape) shape g e) (lt-ltb k (width l) h)
 
   -- none is there twice
   pub row-axes-apart : repeats (rowAxes l shape) ≡ false

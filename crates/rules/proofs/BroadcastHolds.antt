@@ -8,6 +8,7 @@ use borrow.Author.Tests.{eqb-true, eqb-false, not-false}
 use lib.Dec.{eqb, ltb}
 use lib.ListN.{length, getD, take, replicate, length-take, length-map}
 use lib.Seq.{getD-take}
+use Rattle.rules.specs.declared.Mode.{Mode}
 use Rattle.rules.specs.declared.Rule.{Rule}
 use Rattle.rules.specs.declared.Rule.the-variants.{Unite, Multiply, Divide}
 use Rattle.rules.specs.Lists.{if, all, any, none, below, product}
@@ -160,18 +161,18 @@ back-holds rule (last ∷ next ∷ layouts) p =
 
 -- ---- stretchings
 
-one-stretched : (l : Layout) (shape : List ℕ) → Giving (λ x. (x ≡ stretched l shape) × Sound x) (broadcastToShape l shape)
+one-stretched : (mode : Mode) (l : Layout) (shape : List ℕ) → Giving (λ x. (x ≡ stretched mode l shape) × Sound x) (broadcastToShape mode l shape)
 unfolding broadcastToShape
-one-stretched l shape =
-    giving-step (λ x. (x ≡ stretched l shape) × Sound x) (6 when not (sharedAxesFit (l .shape) shape) ∷ 11 when ltb (l .dense + length shape) (rank l) ∷ []) _
-    (giving-made (λ x. (x ≡ stretched l shape) × Sound x) (stretched l shape) (λ s. (refl, s)))
+one-stretched mode l shape =
+    giving-step (λ x. (x ≡ stretched mode l shape) × Sound x) (6 when not (sharedAxesFit (l .shape) shape) ∷ 11 when ltb (l .dense + length shape) (rank l) ∷ []) _
+    (giving-made (λ x. (x ≡ stretched mode l shape) × Sound x) (stretched mode l shape) (λ s. (refl, s)))
 
-all-stretched : (shape : List ℕ) (layouts : List Layout) → Giving (λ l. (l ≡ map (λ x. stretched x shape) layouts) × Sounds l) (stretchAll shape layouts)
+all-stretched : (mode : Mode) (shape : List ℕ) (layouts : List Layout) → Giving (λ l. (l ≡ map (λ x. stretched mode x shape) layouts) × Sounds l) (stretchAll mode shape layouts)
 unfolding stretchAll all
-all-stretched shape [] = (refl, refl)
-all-stretched shape (l ∷ layouts) =
-    giving-then _ (λ x. (x ≡ stretched l shape) × Sound x) (broadcastToShape l shape) _ (one-stretched l shape)
-    (λ first p. giving-then _ (λ k. (k ≡ map (λ x. stretched x shape) layouts) × Sounds k) (stretchAll shape layouts) _ (all-stretched shape layouts)
+all-stretched mode shape [] = (refl, refl)
+all-stretched mode shape (l ∷ layouts) =
+    giving-then _ (λ x. (x ≡ stretched mode l shape) × Sound x) (broadcastToShape mode l shape) _ (one-stretched mode l shape)
+    (λ first p. giving-then _ (λ k. (k ≡ map (λ x. stretched mode x shape) layouts) × Sounds k) (stretchAll mode shape layouts) _ (all-stretched mode shape layouts)
     (λ others q. (rw (p .0, q .0), true-both (true-sound (p .1)) (q .1))))
 
 -- ---- the end
@@ -267,27 +268,27 @@ common-given shapes =
     (given (commonShape shapes)) refl
 
 -- what a broadcast gives is what the end makes of a sound layout that holds what the stretched ones hold
-broadcast-folds : (layouts : List Layout) (rule : Rule) (P : Layout → Type 0) → ((l : Layout) →
-    HoldsOf rule (map (λ x. stretched x (commonShape (map (λ x. x .shape) layouts))) layouts) l → Giving P (endOfBroadcast l)) → Giving P (broadcast layouts rule)
+broadcast-folds : (mode : Mode) (layouts : List Layout) (rule : Rule) (P : Layout → Type 0) → ((l : Layout) →
+    HoldsOf rule (map (λ x. stretched mode x (commonShape (map (λ x. x .shape) layouts))) layouts) l → Giving P (endOfBroadcast l)) → Giving P (broadcast mode layouts rule)
 unfolding broadcast
-broadcast-folds layouts rule P end =
+broadcast-folds mode layouts rule P end =
     let shapes : List (List ℕ) = map (λ x. x .shape) layouts in
     giving-then P (λ shape. shape ≡ commonShape shapes) (broadcastShapes shapes) _ (common-given shapes)
-    (λ shape c. giving-then P (λ all. (all ≡ map (λ x. stretched x shape) layouts) × Sounds all) (stretchAll shape layouts) _ (all-stretched shape layouts)
+    (λ shape c. giving-then P (λ all. (all ≡ map (λ x. stretched mode x shape) layouts) × Sounds all) (stretchAll mode shape layouts) _ (all-stretched mode shape layouts)
     (λ all q. giving-then P (HoldsOf rule (reverse all)) (foldBack rule (reverse all)) _ (back-holds rule (reverse all) (all-reverse soundLayout all ∙ q .1))
     (λ l t. end l (t .0, λ index. t .1 index ∙ held-reverse rule all index ∙ rw (q .0, c)))))
 
 -- it is sound
-pub broadcast-sound : (layouts : List Layout) (rule : Rule) {l : Layout} → broadcast layouts rule ≡ given l → Sound l
-broadcast-sound layouts rule e = given-such Sound (broadcast layouts rule) (broadcast-folds layouts rule Sound (λ l t. end-sound (t .0))) e
+pub broadcast-sound : (mode : Mode) (layouts : List Layout) (rule : Rule) {l : Layout} → broadcast mode layouts rule ≡ given l → Sound l
+broadcast-sound mode layouts rule e = given-such Sound (broadcast mode layouts rule) (broadcast-folds mode layouts rule Sound (λ l t. end-sound (t .0))) e
 
 -- it holds an index exactly if one of the stretched layouts does, or, by '*' and '/', all of them
-pub broadcast-holds : (layouts : List Layout) (rule : Rule) {l : Layout} → broadcast layouts rule ≡ given l → (index : List ℕ) →
-    holds l index ≡ heldBy rule (map (λ x. stretched x (commonShape (map (λ x. x .shape) layouts))) layouts) index
-broadcast-holds layouts rule e = given-such P (broadcast layouts rule) (broadcast-folds layouts rule P all-hold) e
+pub broadcast-holds : (mode : Mode) (layouts : List Layout) (rule : Rule) {l : Layout} → broadcast mode layouts rule ≡ given l → (index : List ℕ) →
+    holds l index ≡ heldBy rule (map (λ x. stretched mode x (commonShape (map (λ x. x .shape) layouts))) layouts) index
+broadcast-holds mode layouts rule e = given-such P (broadcast mode layouts rule) (broadcast-folds mode layouts rule P all-hold) e
   where
     all : List Layout
-    all = map (λ x. stretched x (commonShape (map (λ x. x .shape) layouts))) layouts
+    all = map (λ x. stretched mode x (commonShape (map (λ x. x .shape) layouts))) layouts
 
     P : Layout → Type 0
     P l = (index : List ℕ) → holds l index ≡ heldBy rule all index

@@ -4,6 +4,7 @@ use mathlib.Core.List.{List, [], _∷_, map, reverse}
 use Prim.Native.Nat.{ℕ}
 use lib.Dec.{eqb}
 use lib.ListN.{length}
+use Rattle.rules.specs.declared.Mode.{Mode}
 use Rattle.rules.specs.declared.Rule.{Rule}
 use Rattle.rules.specs.declared.Rule.the-variants.{Unite, Multiply, Divide}
 use Rattle.rules.specs.Lists.{all, none, product}
@@ -25,12 +26,12 @@ module _ (P : ℕ → Type 0) (p6 : P 6) (p9 : P 9) (p11 : P 11) (p12 : P 12) (p
       refusing-then P (lowest reasons) (λ _. given (commonShape shapes)) (refusing-lowest P reasons (p6, (p13, tt))) (λ _. tt)
 
   -- each stretching
-  all-refusing : (shape : List ℕ) (layouts : List Layout) → Refusing P (stretchAll shape layouts)
+  all-refusing : (mode : Mode) (shape : List ℕ) (layouts : List Layout) → Refusing P (stretchAll mode shape layouts)
   unfolding stretchAll
-  all-refusing shape [] = tt
-  all-refusing shape (l ∷ layouts) =
-      refusing-then P (broadcastToShape l shape) _ (stretch-refusing P p12 p13 p6 p11 l shape)
-      (λ first. refusing-then P (stretchAll shape layouts) _ (all-refusing shape layouts) (λ others. tt))
+  all-refusing mode shape [] = tt
+  all-refusing mode shape (l ∷ layouts) =
+      refusing-then P (broadcastToShape mode l shape) _ (stretch-refusing P p12 p13 p6 p11 mode l shape)
+      (λ first. refusing-then P (stretchAll mode shape layouts) _ (all-refusing mode shape layouts) (λ others. tt))
 
   -- each fold
   combine-refusing : (rule : Rule) (a b : Layout) → Refusing P (combine rule a b)
@@ -62,11 +63,11 @@ module _ (P : ℕ → Type 0) (p6 : P 6) (p9 : P 9) (p11 : P 11) (p12 : P 12) (p
       (λ _. refusing-then P (lowest reasons) _ (refusing-lowest P reasons (p12, tt))
       (λ _. refusing-if P (isDiagonalInRows l) _ _ (λ _. refusing-made P p12 p13 (asDiagonal l)) (λ _. tt))))
 
-  pub broadcast-refusing : (layouts : List Layout) (rule : Rule) → Refusing P (broadcast layouts rule)
+  pub broadcast-refusing : (mode : Mode) (layouts : List Layout) (rule : Rule) → Refusing P (broadcast mode layouts rule)
   unfolding broadcast
-  broadcast-refusing layouts rule =
+  broadcast-refusing mode layouts rule =
       let shapes : List (List ℕ) = map (λ l. l .shape) layouts in
       refusing-then P (broadcastShapes shapes) _ (shapes-refusing shapes)
-      (λ shape. refusing-then P (stretchAll shape layouts) _ (all-refusing shape layouts)
+      (λ shape. refusing-then P (stretchAll mode shape layouts) _ (all-refusing mode shape layouts)
       (λ all. refusing-then P (foldBack rule (reverse all)) _ (back-refusing rule (reverse all))
       (λ l. end-refusing l)))

@@ -5,6 +5,7 @@ use mathlib.Core.List.{List, [], _∷_, _++_}
 use Prim.Native.Nat.{ℕ, _+_}
 use lib.Dec.{ltb, eqb}
 use lib.ListN.{length}
+use Rattle.rules.specs.declared.Mode.{Mode}
 use Rattle.rules.specs.declared.Rule.{Rule}
 use Rattle.rules.specs.declared.Rule.the-variants.{Unite, Multiply, Divide}
 use Rattle.rules.specs.Lists.{if, same, keep, product}
@@ -79,10 +80,13 @@ module _ (a b : Layout) (p : InOrder a) (q : InOrder b) where
 -- ---- all is stretched that may be
 
 -- what a stretching gives
-stretch-gives : (l : Layout) (shape : List ℕ) → Giving (λ x. x ≡ stretched l shape) (broadcastToShape l shape)
+stretch-gives : (mode : Mode) (l : Layout) (shape : List ℕ) → Giving (λ x. x ≡ stretched mode l shape) (broadcastToShape mode l shape)
 unfolding broadcastToShape
-stretch-gives l shape =
-    giving-step (λ x. x ≡ stretched l shape) (6 when not (sharedAxesFit (l .shape) shape) ∷ 11 when ltb (l .dense + length shape) (rank l) ∷ []) _ (giving-made (λ x. x ≡ stretched l shape) _ (λ _. refl))
+stretch-gives mode l shape =
+    giving-step (λ x. x ≡ stretched mode l shape) (6 when not (sharedAxesFit (l .shape) shape) ∷ 11 when ltb (l .dense + length shape) (rank l) ∷ []) _ (giving-made (λ x. x ≡ stretched mode l shape) _ (λ _. refl))
 
-pub given-stretched : (l : Layout) (shape : List ℕ) {x : Layout} → broadcastToShape l shape ≡ given x → broadcastToShape l shape ≡ given (stretched l shape)
-given-stretched l shape {x} e = e ∙ ap given (given-such (λ y. y ≡ stretched l shape) (broadcastToShape l shape) (stretch-gives l shape) e)
+pub given-is : (mode : Mode) (l : Layout) (shape : List ℕ) {x : Layout} → broadcastToShape mode l shape ≡ given x → x ≡ stretched mode l shape
+given-is mode l shape e = given-such (λ y. y ≡ stretched mode l shape) (broadcastToShape mode l shape) (stretch-gives mode l shape) e
+
+pub given-stretched : (mode : Mode) (l : Layout) (shape : List ℕ) {x : Layout} → broadcastToShape mode l shape ≡ given x → broadcastToShape mode l shape ≡ given (stretched mode l shape)
+given-stretched mode l shape {x} e = e ∙ ap given (given-is mode l shape e)

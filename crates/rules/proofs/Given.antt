@@ -6,6 +6,7 @@ use Prim.Native.Nat.{ℕ, _+_}
 use lib.Dec.{eqb, ltb}
 use lib.IntN.{ℤ}
 use lib.ListN.{length, drop}
+use Rattle.rules.specs.declared.Mode.{Mode}
 use Rattle.rules.specs.Lists.{if, all, none, fitTo}
 use Rattle.rules.specs.Refusals.{Verdict, given, refused, _then_, Reason, _when_, lowest}
 use Rattle.rules.specs.Layout.{Layout, rank, isSparse, withDeps, made}
@@ -20,7 +21,7 @@ use Rattle.rules.proofs.Unions.{never}
 use Rattle.rules.proofs.Contracting.{contracted-low}
 use Rattle.rules.proofs.Permuting.{permuted-low}
 use Rattle.rules.proofs.Ranging.{cutStates, cutInputs, filtered-low}
-use Rattle.rules.proofs.StretchedAlone.{stretched-low}
+use Rattle.rules.proofs.StretchedAnswers.{stretched-low}
 
 -- ---- what was made
 
@@ -91,11 +92,11 @@ module _ (target source : Layout) (start end : ℕ) {x : Layout} (e : filterDeps
 
 -- ---- stretching
 
-module _ (l : Layout) (shape : List ℕ) {x : Layout} (e : broadcastToShape l shape ≡ given x) where
+module _ (mode : Mode) (l : Layout) (shape : List ℕ) {x : Layout} (e : broadcastToShape mode l shape ≡ given x) where
   -- what was made
-  stretch-made : made (stretched l shape) ≡ given x
+  stretch-made : made (stretched mode l shape) ≡ given x
   unfolding broadcastToShape
-  stretch-made = step-given (6 when not (sharedAxesFit (l .shape) shape) ∷ 11 when ltb (l .dense + length shape) (rank l) ∷ []) (made (stretched l shape)) e
+  stretch-made = step-given (6 when not (sharedAxesFit (l .shape) shape) ∷ 11 when ltb (l .dense + length shape) (rank l) ∷ []) (made (stretched mode l shape)) e
 
   -- an answer is sound
   pub stretch-sound : Sound x
@@ -104,18 +105,18 @@ module _ (l : Layout) (shape : List ℕ) {x : Layout} (e : broadcastToShape l sh
   -- and its dependencies' numbers are below 2 ^ 31
   pub stretch-low : DepsLow l → DepsLow x
   unfolding stretched
-  stretch-low p = made-given DepsLow (λ s. stretched-low p shape (s .sizes .product-most)) stretch-made
+  stretch-low p = made-given DepsLow (λ s. stretched-low mode p shape (s .sizes .product-most)) stretch-made
 
-module _ (l : Layout) (r : ℕ) {x : Layout} (e : broadcastToRank l r ≡ given x) where
+module _ (mode : Mode) (l : Layout) (r : ℕ) {x : Layout} (e : broadcastToRank mode l r ≡ given x) where
   -- what was stretched
-  rank-made : broadcastToShape l (fitTo r 1 (l .shape)) ≡ given x
+  pub rank-made : broadcastToShape mode l (fitTo r 1 (l .shape)) ≡ given x
   unfolding broadcastToRank
-  rank-made = step-given (6 when not (all (eqb 1) (drop r (l .shape))) ∷ []) (broadcastToShape l (fitTo r 1 (l .shape))) e
+  rank-made = step-given (6 when not (all (eqb 1) (drop r (l .shape))) ∷ []) (broadcastToShape mode l (fitTo r 1 (l .shape))) e
 
   -- an answer is sound
   pub rank-sound : Sound x
-  rank-sound = stretch-sound l (fitTo r 1 (l .shape)) rank-made
+  rank-sound = stretch-sound mode l (fitTo r 1 (l .shape)) rank-made
 
   -- and its dependencies' numbers are below 2 ^ 31
   pub rank-low : DepsLow l → DepsLow x
-  rank-low = stretch-low l (fitTo r 1 (l .shape)) rank-made
+  rank-low = stretch-low mode l (fitTo r 1 (l .shape)) rank-made

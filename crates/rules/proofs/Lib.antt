@@ -9,7 +9,7 @@
 --     DenseRemoved, Once, Lowering, Listed,
 --     Unions, UnionHolds, Low                                      the union of two sound layouts by plain cases, and what it holds
 --     Contracting, Moved, Permuting, Replaced, Ranging,
---     Gathering, Taking, Axes, Stretching, StretchedAlone, ToRank  which answer an operation gives of a sound layout, by plain cases
+--     Gathering, Taking, Axes, Stretching, Yielding, StretchedAnswers, ToRank  which answer an operation gives of a sound layout, by plain cases
 --     Given                                                        that what they give is sound
 --     StretchedHolds, Full, IntersectHolds, ContractedHolds,
 --     PermutedHolds                                                what is held then
@@ -71,7 +71,8 @@ pub mod Gathering
 pub mod Taking
 pub mod Axes
 pub mod Stretching
-pub mod StretchedAlone
+pub mod Yielding
+pub mod StretchedAnswers
 pub mod ToRank
 pub mod Given
 pub mod StretchedHolds
@@ -94,6 +95,7 @@ pub mod Agreeing
 pub mod Giving
 pub mod Unchanged
 pub mod Folding
+pub mod StretchedModes
 pub mod BroadcastEnds
 pub mod BroadcastHolds
 pub mod MovedBy

@@ -5,6 +5,7 @@ use mathlib.Core.List.{List, [], _∷_, map}
 use Prim.Native.Nat.{ℕ}
 use native.Mathlib.Omega.{arith}
 use lib.IntN.{ℤ}
+use Rattle.rules.specs.declared.Mode.the-variants.{Alone}
 use Rattle.rules.specs.Lists.{all, any}
 use Rattle.rules.specs.Refusals.{Verdict, given, refused, _then_, Reason, _when_, lowest}
 use Rattle.rules.specs.Layout.{Layout}
@@ -73,4 +74,4 @@ broadcast-call-never-14 s count operator result work =
     (1 when (overCount count || any overRecord (recordsIn count s)) ∷ 2 when (shortResult result || shortWork work)
     ∷ 3 when not (all sound (recordsIn count s)) ∷ [])
     (omega arith) _
-    (broadcast-refusing Not14 (omega arith) (omega arith) (omega arith) (omega arith) (omega arith) (map layoutIn (recordsIn count s)) (ruleOf operator))
+    (broadcast-refusing Not14 (omega arith) (omega arith) (omega arith) (omega arith) (omega arith) Alone (map layoutIn (recordsIn count s)) (ruleOf operator))

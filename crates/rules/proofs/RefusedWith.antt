@@ -7,6 +7,7 @@ use native.Mathlib.Omega.{arith}
 use lib.Dec.{eqb, ltb}
 use lib.IntN.{ℤ}
 use lib.ListN.{length, drop}
+use Rattle.rules.specs.declared.Mode.{Mode}
 use Rattle.rules.specs.Lists.{all, none, same, fitTo}
 use Rattle.rules.specs.Refusals.{Verdict, inForm, _then_, Reason, _when_, lowest}
 use Rattle.rules.specs.Layout.{Layout, rank, isDense, isSparse, few, made}
@@ -109,14 +110,14 @@ module _ (P : ℕ → Type 0) (p12 : P 12) (p13 : P 13) where
   filter-refusing p10 target source start end = refusing-step P (10 when cannotCut target source ∷ []) (p10, tt) _ (refusing-made P p12 p13 _)
 
   -- stretching to a shape: 6, 11, 12 and 13
-  pub stretch-refusing : P 6 → P 11 → (l : Layout) (shape : List ℕ) → Refusing P (broadcastToShape l shape)
+  pub stretch-refusing : P 6 → P 11 → (mode : Mode) (l : Layout) (shape : List ℕ) → Refusing P (broadcastToShape mode l shape)
   unfolding broadcastToShape
-  stretch-refusing p6 p11 l shape =
+  stretch-refusing p6 p11 mode l shape =
       refusing-step P (6 when not (sharedAxesFit (l .shape) shape) ∷ 11 when ltb (l .dense + length shape) (rank l) ∷ []) (p6, (p11, tt)) _
       (refusing-made P p12 p13 _)
 
   -- and to a rank
-  pub rank-refusing : P 6 → P 11 → (l : Layout) (r : ℕ) → Refusing P (broadcastToRank l r)
+  pub rank-refusing : P 6 → P 11 → (mode : Mode) (l : Layout) (r : ℕ) → Refusing P (broadcastToRank mode l r)
   unfolding broadcastToRank
-  rank-refusing p6 p11 l r =
-      refusing-step P (6 when not (all (eqb 1) (drop r (l .shape))) ∷ []) (p6, tt) _ (stretch-refusing p6 p11 l (fitTo r 1 (l .shape)))
+  rank-refusing p6 p11 mode l r =
+      refusing-step P (6 when not (all (eqb 1) (drop r (l .shape))) ∷ []) (p6, tt) _ (stretch-refusing p6 p11 mode l (fitTo r 1 (l .shape)))

@@ -1,5 +1,5 @@
 -- One number of a list replaced by another, and a list fitted to a length. Assumes nothing.
-use mathlib.Core.Path.{_≡_, sym, ap, _∙_}
+use mathlib.Core.Path.{_≡_, refl, sym, ap, _∙_}
 use mathlib.Core.List.{List, [], _∷_, _++_}
 use Prim.Native.Nat.{ℕ, zero, suc, _≤_, _<_}
 use native.Mathlib.Omega.{arith}
@@ -64,13 +64,26 @@ behind-most [] (suc n) v (suc i) h = behind-most [] n v i (omega arith)
 behind-most (x ∷ l) n v zero h = absurd (omega arith)
 behind-most (x ∷ l) n v (suc i) h = behind-most l n v i (omega arith)
 
+-- as often as it was put there
+behind-is : (l : List ℕ) (n v i : ℕ) → length l ≤ i → i < n → getD (l ++ replicate n v) i 0 ≡ v
+behind-is [] zero v i h g = absurd (omega arith)
+behind-is [] (suc n) v zero h g = refl
+behind-is [] (suc n) v (suc i) h g = behind-is [] n v i (omega arith) (omega arith)
+behind-is (x ∷ l) n v zero h g = absurd (omega arith)
+behind-is (x ∷ l) n v (suc i) h g = behind-is l n v i (omega arith) (omega arith)
+
 module _ (n v : ℕ) (l : List ℕ) where
   -- the numbers that are there stay
   pub fit-at : (i : ℕ) → i < n → i < length l → getD (fitTo n v l) i 0 ≡ getD l i 0
   unfolding fitTo
   fit-at i h g = getD-take n (l ++ replicate n v) i 0 h ∙ List·getD-append l (replicate n v) 0 i g
 
-  -- behind them stands v, or nothing
+  -- behind them stands v
+  pub fit-behind : (i : ℕ) → length l ≤ i → i < n → getD (fitTo n v l) i 0 ≡ v
+  unfolding fitTo
+  fit-behind i h g = getD-take n (l ++ replicate n v) i 0 g ∙ behind-is l n v i h g
+
+  -- or nothing
   pub fit-past : (i : ℕ) → length l ≤ i → getD (fitTo n v l) i 0 ≤ v
   unfolding fitTo
   fit-past i h = by (compareNumbers i n)

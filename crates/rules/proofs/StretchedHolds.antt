@@ -6,6 +6,7 @@ use Prim.Native.Nat.{ℕ, _≤_, _<_}
 use native.Mathlib.Omega.{arith}
 use lib.ListN.{length, getD, take, length-map, List·getD-eq-default}
 use lib.Seq.{length-take-le, getD-take, ext-getD}
+use Rattle.rules.specs.declared.Mode.{Mode}
 use Rattle.rules.specs.Lists.{if, below}
 use Rattle.rules.specs.RowsInOrder.{In}
 use Rattle.rules.specs.Layout.{Layout, rank, width}
@@ -123,35 +124,35 @@ module _ {l : Layout} (w : WellFormed l) {shape : List ℕ} (g : Stretches l sha
         kept k o (above h) = past k (omega arith)
 
   -- a stretched dense or sparse layout holds a position exactly if the old one holds what it comes from
-  pub stretched-holds : (l .kind ≡ 1 → ⊥) → (index : List ℕ) → holds (stretched l shape) index ≡ isPosition shape index && holds l (cameFrom (l .shape) shape index)
+  pub stretched-holds : (mode : Mode) → (l .kind ≡ 1 → ⊥) → (index : List ℕ) → holds (stretched mode l shape) index ≡ isPosition shape index && holds l (cameFrom (l .shape) shape index)
   unfolding stretched
-  stretched-holds n index = by (one-kind w)
+  stretched-holds mode n index = by (one-kind w)
     where
       came : List ℕ
       came = cameFrom (l .shape) shape index
 
-      dense : l .kind ≡ 0 → holds (stretched l shape) index ≡ isPosition shape index && holds l came
+      dense : l .kind ≡ 0 → holds (stretched mode l shape) index ≡ isPosition shape index && holds l came
       dense k =
-          decided (holds (stretched l shape) index) (isPosition shape index && holds l came)
-          (λ h. let p = holds-position (stretched l shape) index h in true-both (true-position p) (holds-dense l came k ∙ true-position (came-position p)))
-          (λ h. holds-dense (stretched l shape) index k ∙ both-true (isPosition shape index) (holds l came) h .0)
+          decided (holds (stretched mode l shape) index) (isPosition shape index && holds l came)
+          (λ h. let p = holds-position (stretched mode l shape) index h in true-both (true-position p) (holds-dense l came k ∙ true-position (came-position p)))
+          (λ h. holds-dense (stretched mode l shape) index k ∙ both-true (isPosition shape index) (holds l came) h .0)
 
-      sparse : l .kind ≡ 2 → holds (stretched l shape) index ≡ isPosition shape index && holds l came
-      sparse k = decided (holds (stretched l shape) index) (isPosition shape index && holds l came) there back
+      sparse : l .kind ≡ 2 → holds (stretched mode l shape) index ≡ isPosition shape index && holds l came
+      sparse k = decided (holds (stretched mode l shape) index) (isPosition shape index && holds l came) there back
         where
-          there : holds (stretched l shape) index ≡ true → isPosition shape index && holds l came ≡ true
+          there : holds (stretched mode l shape) index ≡ true → isPosition shape index && holds l came ≡ true
           there h =
-              let on = sparse-true (stretched l shape) index k h in
-              let x = stretch-only w shape (rw (stretched-width w g) at (on .1)) in
+              let on = sparse-true (stretched mode l shape) index k h in
+              let x = stretch-only w shape (rw (stretched-width mode w g) at (on .1)) in
               true-both (true-position (on .0)) (true-sparse l came k (came-position (on .0)) (in-same (old-row (on .0) (x .1) (x .2)) (x .1)))
 
-          back : isPosition shape index && holds l came ≡ true → holds (stretched l shape) index ≡ true
+          back : isPosition shape index && holds l came ≡ true → holds (stretched mode l shape) index ≡ true
           back h =
               let both = both-true (isPosition shape index) (holds l came) h in
               let p = position-true shape index (both .0) in
-              true-sparse (stretched l shape) index k p (rw (stretched-width w g) (stretch-has w shape (sparse-true l came k (both .1) .1) (new-row p)))
+              true-sparse (stretched mode l shape) index k p (rw (stretched-width mode w g) (stretch-has w shape (sparse-true l came k (both .1) .1) (new-row p)))
 
-      by : OneKind l → holds (stretched l shape) index ≡ isPosition shape index && holds l came
+      by : OneKind l → holds (stretched mode l shape) index ≡ isPosition shape index && holds l came
       by (is-dense k) = dense k
       by (is-diagonal k) = absurd (n k)
       by (is-sparse k) = sparse k

@@ -1,4 +1,4 @@
--- A stretched layout, shape, kind, D and rows, whatever its dependencies: which rows it has, and when it is formed. Assumes nothing.
+-- A stretched layout, shape, kind, D and rows, whatever its mode and its dependencies: which rows it has, and when it is formed. Assumes nothing.
 use mathlib.Core.Path.{_≡_, refl, _∙_}
 use mathlib.Core.Bool.{Bool, true, false}
 use mathlib.Core.List.{List, [], _∷_, map, List·Memᴰ}
@@ -6,6 +6,7 @@ use Prim.Native.Nat.{ℕ, _+_, _*_, _≤_, _<_}
 use native.Mathlib.Omega.{arith}
 use borrow.Author.Tests.{le-leb, eq-eqb}
 use lib.ListN.{length, getD, take}
+use Rattle.rules.specs.declared.Mode.{Mode}
 use Rattle.rules.specs.Limits.{rankLimit, productLimit}
 use Rattle.rules.specs.Lists.{implies, gather, product, allBelow}
 use Rattle.rules.specs.RowsInOrder.{sorted, In, Each, Increasing}
@@ -81,9 +82,9 @@ pub record Stretches (l : Layout) (shape : List ℕ) : Type 0 where
   pub fits : sharedAxesFit (l .shape) shape ≡ true
   pub room : rank l ≤ l .dense + length shape
 
-module _ {l : Layout} (w : WellFormed l) {shape : List ℕ} (g : Stretches l shape) where
+module _ (mode : Mode) {l : Layout} (w : WellFormed l) {shape : List ℕ} (g : Stretches l shape) where
   -- R - D does not change
-  pub stretched-width : width (stretched l shape) ≡ width l
+  pub stretched-width : width (stretched mode l shape) ≡ width l
   unfolding stretched
   stretched-width = omega (arith, w .dense-most, g .room)
 
@@ -106,12 +107,12 @@ module _ {l : Layout} (w : WellFormed l) {shape : List ℕ} (g : Stretches l sha
 
   -- with dependencies of the new rank it is formed, unless it is a diagonal whose first R - D new extents are not alike
   pub stretched-formed : length shape ≤ rankLimit → nonzeroProduct shape ≤ productLimit → implies (isDiagonal l) (alike (take (width l) shape)) ≡ true →
-      {states inputs : List (List ℕ)} → DepsOfRank (length shape) states → DepsOfRank (length shape) inputs → Formed (withDeps states inputs (stretched l shape))
+      {states inputs : List (List ℕ)} → DepsOfRank (length shape) states → DepsOfRank (length shape) inputs → Formed (withDeps states inputs (stretched mode l shape))
   unfolding stretched
   stretched-formed few-axes small e {states} {inputs} p q = by (one-kind w)
     where
       made-of : Layout
-      made-of = withDeps states inputs (stretched l shape)
+      made-of = withDeps states inputs (stretched mode l shape)
 
       frame : Framed made-of
       frame = record { rank-most = few-axes; product-most = small; states-are = p; inputs-are = q }
@@ -126,7 +127,7 @@ module _ {l : Layout} (w : WellFormed l) {shape : List ℕ} (g : Stretches l sha
           (rw stretched-width stretched-sizes) stretched-inside
 
   -- such a diagonal is refused with 12, whatever the dependencies
-  pub stretched-breaks : l .kind ≡ 1 → alike (take (width l) shape) ≡ false → (states inputs : List (List ℕ)) → made (withDeps states inputs (stretched l shape)) ≡ refused 12
+  pub stretched-breaks : l .kind ≡ 1 → alike (take (width l) shape) ≡ false → (states inputs : List (List ℕ)) → made (withDeps states inputs (stretched mode l shape)) ≡ refused 12
   unfolding stretched
   stretched-breaks k e states inputs =
-      bad-diagonal-made (withDeps states inputs (stretched l shape)) k (rw (stretched-width, e, le-leb 1 (width l) (w .diagonal-wide k)))
+      bad-diagonal-made (withDeps states inputs (stretched mode l shape)) k (rw (stretched-width, e, le-leb 1 (width l) (w .diagonal-wide k)))

@@ -1,5 +1,5 @@
 -- Rows that take all values on some axes: which rows they are, how many, and that none comes again. Assumes nothing.
-use mathlib.Core.Path.{_≡_, refl, sym, ap, _∙_}
+use mathlib.Core.Path.{_≡_, refl, sym, ap, _∙_, subst}
 use mathlib.Core.Bool.{false}
 use mathlib.Core.Logic.{_⊎_, inl, inr, ⊎-elim}
 use mathlib.Core.List.{List, [], _∷_, _++_, map, List·Memᴰ, List·Memᴰ·head, List·Memᴰ·tail, List·Memᴰ·not-nil, List·Memᴰ·cases-cons, Memᴰ·map, Memᴰ·of-map}
@@ -119,6 +119,16 @@ module _ (shape : List ℕ) (n : ℕ) where
           here : (k : ℕ) → (k ≡ a) ⊎ List·Memᴰ k axes → (List·Memᴰ k axes → ⊥) → getD x k 0 < getD shape k 0
           here k (inl d) o = rw (t .kept k o, i .2, d, with-same (i .0) r inside) (i .1)
           here k (inr m) o = absurd (o m)
+
+  -- what holds of all rows, and stays with any value on such an axis, holds of the rows that take all values
+  pub take-each : (axes : List ℕ) (P : List ℕ → Type 0) → ((r : List ℕ) (axis v : ℕ) → List·Memᴰ axis axes → v < getD shape axis 0 → P r → P (with axis v r)) →
+      {rows : List (List ℕ)} → Each P rows → Each P (takeAll shape axes rows)
+  unfolding takeAll
+  take-each [] P stays f = f
+  take-each (a ∷ axes) P stays f =
+      take-each axes P (λ r axis v m. stays r axis v (List·Memᴰ·tail m))
+      (gather-each (λ r. everyValue shape r a)
+      (λ r m x i. let v = every-only shape r a i in subst P (sym (v .2)) (stays r a (v .0) (List·Memᴰ·head refl) (v .1) (f r m))))
 
   -- each row but for the axes is one of the rows that take all values
   pub take-has : (axes : List ℕ) → ((k : ℕ) → List·Memᴰ k axes → k < n) → {rows : List (List ℕ)} → Each (λ r. length r ≡ n) rows →

@@ -9,28 +9,29 @@ use borrow.Author.Tests.{ltb-true, le-leb, lt-leb, eqb-true, eq-eqb, not-true}
 use lib.Dec.{eqb, ltb}
 use lib.ListN.{length, getD, take, drop, replicate, length-append, List·getD-append}
 use lib.Seq.{length-take-le, take-take, take-append-le}
+use Rattle.rules.specs.declared.Mode.{Mode}
 use Rattle.rules.specs.Limits.{rankLimit, entryLimit}
-use Rattle.rules.specs.Lists.{all, gather, fitTo}
-use Rattle.rules.specs.RowsInOrder.{sorted, Each}
+use Rattle.rules.specs.Lists.{all, gather, with, fitTo}
+use Rattle.rules.specs.RowsInOrder.{sorted, In, Each}
 use Rattle.rules.specs.Refusals.{given, refused, lowest}
 use Rattle.rules.specs.Layout.{Layout, rank, width, isDiagonal, nonzeroProduct, alike, few}
 use Rattle.rules.specs.Soundness.{Sound}
 use Rattle.rules.specs.Dependencies.{indexOf, onIndex}
-use Rattle.rules.specs.Stretching.{sharedAxesFit, isStretched, stretchedAxes, takeAll, stretchRows, everyValue, alone, stretchDeps, stretched, broadcastToShape, broadcastToRank}
+use Rattle.rules.specs.Stretching.{sharedAxesFit, isStretched, stretchedAxes, takeAll, stretchRows, yields, stretchDeps, stretched, broadcastToShape, broadcastToRank}
 use Rattle.rules.proofs.Order.{ComparedNumbers, under, even, above, compareNumbers}
 use Rattle.rules.proofs.Same.{both-true, true-not-false}
-use Rattle.rules.proofs.Sets.{in-same, each-cons}
+use Rattle.rules.proofs.Sets.{in-same}
 use Rattle.rules.proofs.Sorting.{sorted-same, sorted-length}
 use Rattle.rules.proofs.Few.{sorted-few}
 use Rattle.rules.proofs.Tests.{true-both, true-implies, true-either}
 use Rattle.rules.proofs.Extents.{nonzero-more, nonzero-take, nonzero-cons}
 use Rattle.rules.proofs.Changed.{sorted-map-length}
-use Rattle.rules.proofs.Replaced.{with-itself, fit-length, fit-at, fit-past}
+use Rattle.rules.proofs.Replaced.{with-itself, fit-length, fit-at, fit-past, fit-behind}
 use Rattle.rules.proofs.Gathering.{gather-has, gather-each}
-use Rattle.rules.proofs.Taking.{every-only}
 use Rattle.rules.proofs.Axes.{kept-only, stretched-below, stretched-one, rowAxes}
 use Rattle.rules.proofs.Stretching.{Stretches}
-use Rattle.rules.proofs.StretchedAlone.{stretch-bars, stretch-given}
+use Rattle.rules.proofs.Yielding.{yields-each, yields-itself}
+use Rattle.rules.proofs.StretchedAnswers.{stretch-bars, stretch-given}
 
 -- ---- the shape
 
@@ -71,10 +72,6 @@ module _ (old : List ℕ) (r : ℕ) where
   abbrev fitted : List ℕ → List ℕ
   fitted d = onIndex (fitTo r 0) d
 
-  -- what a dependency yields
-  abbrev yields : List ℕ → List (List ℕ)
-  yields d = alone new (stretchedAxes old new) (fitted d)
-
   -- a shared axis is not stretched
   not-shared : {k : ℕ} → k < r → k < length old → isStretched old new k ≡ true → ⊥
   not-shared {k} h g e =
@@ -103,32 +100,42 @@ module _ (old : List ℕ) (r : ℕ) where
         ∙ omega (arith, fit-past r 0 (indexOf d) k (omega (arith, length-take-le (length d - 1) d (omega arith)))),
   )
 
-  -- so a dependency yields itself fitted, and no more
-  yields-itself : (d : List ℕ) → length d ≡ suc (length old) → Each (λ x. x ≡ fitted d) (yields d)
-  yields-itself d n = each-cons refl (gather-each (λ axis. everyValue new (fitted d) axis) itself)
-    where
-      itself : (axis : ℕ) → List·Memᴰ axis (stretchedAxes old new) → Each (λ x. x ≡ fitted d) (everyValue new (fitted d) axis)
-      itself axis m x i =
-          let v = every-only new (fitted d) axis i in
-          let added = only-added m in
-          let there = added-zero d n (added .0) (added .1) in
-          let only : v .0 ≡ 0 = omega (arith, v .1, fit-past r 1 old axis (added .0)) in
-          v .2 ∙ with-itself (v .0) (fitted d) (there .0) (there .1 ∙ sym only)
+  module _ (mode : Mode) where
+    -- what a dependency yields
+    abbrev given-by : List ℕ → List (List ℕ)
+    given-by d = yields mode new (stretchedAxes old new) (fitted d)
+
+    -- it is itself fitted, and no more
+    only-itself : (d : List ℕ) → length d ≡ suc (length old) → Each (λ x. x ≡ fitted d) (given-by d)
+    only-itself d n = yields-each new (stretchedAxes old new) mode (λ x. x ≡ fitted d) stays (fitted d) refl
+      where
+        stays : (x : List ℕ) (axis v : ℕ) → List·Memᴰ axis (stretchedAxes old new) → v < getD new axis 0 → x ≡ fitted d → with axis v x ≡ fitted d
+        stays x axis v m h e =
+            let added = only-added m in
+            let there = added-zero d n (added .0) (added .1) in
+            let only : v ≡ 0 = omega (arith, h, fit-past r 1 old axis (added .0)) in
+            rw e (with-itself v (fitted d) (there .0) (there .1 ∙ sym only))
+
+    itself-there : (d : List ℕ) → length d ≡ suc (length old) → In (fitted d) (given-by d)
+    itself-there d n =
+        yields-itself new (stretchedAxes old new) mode (fitted d)
+        (λ k m. let added = only-added m in let there = added-zero d n (added .0) (added .1) in (there .0, omega (arith, there .1, fit-behind r 1 old k (added .0) (added .1))))
 
   -- fitted, sorted and once each, dependencies are not more
   fitted-few : (deps : List (List ℕ)) → length deps ≤ entryLimit → few (sorted (map fitted deps)) ≡ true
   fitted-few deps h = le-leb (length (sorted (map fitted deps))) entryLimit (omega (arith, sorted-map-length fitted deps))
 
   -- dependencies are fitted to the rank, sorted, once each
-  pub rank-deps : {deps : List (List ℕ)} → Each (λ d. length d ≡ suc (length old)) deps → length deps ≤ entryLimit → stretchDeps old (fitTo r 1 old) deps ≡ sorted (map (onIndex (fitTo r 0)) deps)
+  pub rank-deps : (mode : Mode) {deps : List (List ℕ)} → Each (λ d. length d ≡ suc (length old)) deps → length deps ≤ entryLimit →
+      stretchDeps mode old (fitTo r 1 old) deps ≡ sorted (map (onIndex (fitTo r 0)) deps)
   unfolding stretchDeps
-  rank-deps {deps} f h = rw (fit-length r 1 old) (sorted-few (gather yields deps) (rw same (fitted-few deps h)) ∙ same)
+  rank-deps mode {deps} f h = rw (fit-length r 1 old) (sorted-few (gather (given-by mode) deps) (rw same (fitted-few deps h)) ∙ same)
     where
-      same : sorted (gather yields deps) ≡ sorted (map fitted deps)
+      same : sorted (gather (given-by mode) deps) ≡ sorted (map fitted deps)
       same =
           sorted-same
-          (gather-each yields (λ d m x i. in-same (yields-itself d (f d m) x i) (Memᴰ·map fitted m)))
-          (λ x m. let k = Memᴰ·of-map fitted deps m in gather-has yields (k .1) (List·Memᴰ·head (sym (k .2))))
+          (gather-each (given-by mode) (λ d m x i. in-same (only-itself mode d (f d m) x i) (Memᴰ·map fitted m)))
+          (λ x m. let k = Memᴰ·of-map fitted deps m in gather-has (given-by mode) (k .1) (in-same (sym (k .2)) (itself-there mode (k .0) (f (k .0) (k .1)))))
 
 module _ (l : Layout) (r : ℕ) where
   -- rows are not stretched: they are sorted
@@ -154,32 +161,32 @@ module _ (l : Layout) (r : ℕ) where
 -- ---- the answer
 
 -- a cut axis is not 1: 6
-pub rank-disagrees : (l : Layout) (r : ℕ) → all (eqb 1) (drop r (l .shape)) ≡ false → broadcastToRank l r ≡ refused 6
+pub rank-disagrees : (mode : Mode) (l : Layout) (r : ℕ) → all (eqb 1) (drop r (l .shape)) ≡ false → broadcastToRank mode l r ≡ refused 6
 unfolding broadcastToRank lowest
-rank-disagrees l r e = rw e
+rank-disagrees mode l r e = rw e
 
-module _ (l : Layout) (r : ℕ) (e : all (eqb 1) (drop r (l .shape)) ≡ true) where
+module _ (mode : Mode) (l : Layout) (r : ℕ) (e : all (eqb 1) (drop r (l .shape)) ≡ true) where
   -- otherwise it is stretched to the shape fitted to the rank
-  pub rank-stretches : broadcastToRank l r ≡ broadcastToShape l (fitTo r 1 (l .shape))
+  pub rank-stretches : broadcastToRank mode l r ≡ broadcastToShape mode l (fitTo r 1 (l .shape))
   unfolding broadcastToRank lowest
   rank-stretches = rw e
 
   -- D would fall below 0: 11
-  pub rank-bars : l .dense + r < rank l → broadcastToRank l r ≡ refused 11
+  pub rank-bars : l .dense + r < rank l → broadcastToRank mode l r ≡ refused 11
   unfolding fitTo
-  rank-bars h = rank-stretches ∙ stretch-bars l (fitTo r 1 (l .shape)) (cut-fits r (l .shape) (replicate r 1)) (rw (fit-length r 1 (l .shape)) h)
+  rank-bars h = rank-stretches ∙ stretch-bars mode l (fitTo r 1 (l .shape)) (cut-fits r (l .shape) (replicate r 1)) (rw (fit-length r 1 (l .shape)) h)
 
   -- otherwise it is given
-  pub rank-given : Sound l → r ≤ rankLimit → rank l ≤ l .dense + r → broadcastToRank l r ≡ given (stretched l (fitTo r 1 (l .shape)))
+  pub rank-given : Sound l → r ≤ rankLimit → rank l ≤ l .dense + r → broadcastToRank mode l r ≡ given (stretched mode l (fitTo r 1 (l .shape)))
   unfolding stretched
   rank-given s h room =
       rank-stretches
-      ∙ stretch-given (rank-fits l r room) s (rw (fit-length r 1 (l .shape)) h) (le-trans (fit-product r (l .shape)) (s .sizes .product-most))
+      ∙ stretch-given mode (rank-fits l r room) s (rw (fit-length r 1 (l .shape)) h) (le-trans (fit-product r (l .shape)) (s .sizes .product-most))
       (true-implies (isDiagonal l) (alike (take (width l) (fitTo r 1 (l .shape)))) (λ k. rw (rank-front l r room) (s .form .diagonal-alike (eqb-true (l .kind) 1 k))))
       ∙ rw (rows-few, deps-few (s .form .states-fit .lengths) (s .sizes .states-few), deps-few (s .form .inputs-fit .lengths) (s .sizes .inputs-few))
     where
       rows-few : few (stretchRows l (fitTo r 1 (l .shape))) ≡ true
       rows-few = rw (rank-rows l r) (le-leb (length (sorted (l .rows))) entryLimit (omega (arith, sorted-length (l .rows), s .sizes .rows-few)))
 
-      deps-few : {deps : List (List ℕ)} → Each (λ d. length d ≡ suc (rank l)) deps → length deps ≤ entryLimit → few (stretchDeps (l .shape) (fitTo r 1 (l .shape)) deps) ≡ true
-      deps-few {deps} f n = rw (rank-deps (l .shape) r f n) (fitted-few (l .shape) r deps n)
+      deps-few : {deps : List (List ℕ)} → Each (λ d. length d ≡ suc (rank l)) deps → length deps ≤ entryLimit → few (stretchDeps mode (l .shape) (fitTo r 1 (l .shape)) deps) ≡ true
+      deps-few {deps} f n = rw (rank-deps (l .shape) r mode f n) (fitted-few (l .shape) r deps n)

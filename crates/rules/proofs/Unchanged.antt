@@ -7,6 +7,8 @@ use native.Mathlib.Omega.{arith}
 use borrow.Author.Tests.{eq-eqb, eqb-true, le-leb, lt-leb}
 use lib.Dec.{eqb}
 use lib.ListN.{length, getD, take, replicate, length-take, take-append-drop}
+use Rattle.rules.specs.declared.Mode.{Mode}
+use Rattle.rules.specs.declared.Mode.the-variants.{Alone, Together}
 use Rattle.rules.specs.Limits.{entryLimit}
 use Rattle.rules.specs.Lists.{gather, keep, fitTo}
 use Rattle.rules.specs.Buffers.{part}
@@ -15,7 +17,7 @@ use Rattle.rules.specs.Refusals.{given}
 use Rattle.rules.specs.Layout.{Layout, rank, width, isDiagonal, alike}
 use Rattle.rules.specs.Soundness.{Sound}
 use Rattle.rules.specs.Dependencies.{onIndex}
-use Rattle.rules.specs.Stretching.{sharedAxesFit, isStretched, stretchedAxes, takeAll, alone, stretchRows, stretchDeps, stretched, broadcastToShape}
+use Rattle.rules.specs.Stretching.{sharedAxesFit, isStretched, stretchedAxes, takeAll, yields, stretchRows, stretchDeps, stretched, broadcastToShape}
 use Rattle.rules.proofs.Same.{true-not-false}
 use Rattle.rules.proofs.Tests.{true-both, true-either, true-implies}
 use Rattle.rules.proofs.Sets.{each-head, each-tail}
@@ -23,7 +25,7 @@ use Rattle.rules.proofs.Sorting.{sorted-id}
 use Rattle.rules.proofs.Few.{sorted-few}
 use Rattle.rules.proofs.Sections.{part-at}
 use Rattle.rules.proofs.Axes.{stretched-below}
-use Rattle.rules.proofs.StretchedAlone.{stretch-given}
+use Rattle.rules.proofs.StretchedAnswers.{stretch-given}
 
 -- ---- no axis is stretched
 
@@ -68,33 +70,38 @@ index-same n d e =
     rw (fit-same n 0 (take (length d - 1) d) k) (take-append-drop (length d - 1) d)
 
 -- each dependency yields itself
-alone-same : (shape : List ℕ) (deps : List (List ℕ)) → Each (λ d. length d ≡ suc (length shape)) deps →
-    gather (λ d. alone shape [] (onIndex (fitTo (length shape) 0) d)) deps ≡ deps
-unfolding gather
-alone-same shape [] p = refl
-alone-same shape (d ∷ deps) p = rw (index-same (length shape) d (each-head p), alone-same shape deps (each-tail p))
+yields-same : (mode : Mode) (shape d : List ℕ) → yields mode shape [] d ≡ d ∷ []
+unfolding yields gather takeAll
+yields-same Alone shape d = refl
+yields-same Together shape d = refl
 
-deps-unchanged : (shape : List ℕ) (deps : List (List ℕ)) → Each (λ d. length d ≡ suc (length shape)) deps → Increasing deps → length deps ≤ entryLimit →
-    stretchDeps shape shape deps ≡ deps
+all-same : (mode : Mode) (shape : List ℕ) (deps : List (List ℕ)) → Each (λ d. length d ≡ suc (length shape)) deps →
+    gather (λ d. yields mode shape [] (onIndex (fitTo (length shape) 0) d)) deps ≡ deps
+unfolding gather
+all-same mode shape [] p = refl
+all-same mode shape (d ∷ deps) p = rw (index-same (length shape) d (each-head p), yields-same mode shape d, all-same mode shape deps (each-tail p))
+
+deps-unchanged : (mode : Mode) (shape : List ℕ) (deps : List (List ℕ)) → Each (λ d. length d ≡ suc (length shape)) deps → Increasing deps → length deps ≤ entryLimit →
+    stretchDeps mode shape shape deps ≡ deps
 unfolding stretchDeps
-deps-unchanged shape deps p i h =
-    rw (none-stretched shape, alone-same shape deps p)
+deps-unchanged mode shape deps p i h =
+    rw (none-stretched shape, all-same mode shape deps p)
     (sorted-few deps (rw (sorted-id i) (le-leb (length deps) 128 h)) ∙ sorted-id i)
 
 -- ---- the layout
 
-module _ {l : Layout} (s : Sound l) where
-  states-unchanged : stretchDeps (l .shape) (l .shape) (l .states) ≡ l .states
-  states-unchanged = deps-unchanged (l .shape) (l .states) (s .form .states-fit .lengths) (s .form .states-fit .increase) (s .sizes .states-few)
+module _ (mode : Mode) {l : Layout} (s : Sound l) where
+  states-unchanged : stretchDeps mode (l .shape) (l .shape) (l .states) ≡ l .states
+  states-unchanged = deps-unchanged mode (l .shape) (l .states) (s .form .states-fit .lengths) (s .form .states-fit .increase) (s .sizes .states-few)
 
-  inputs-unchanged : stretchDeps (l .shape) (l .shape) (l .inputs) ≡ l .inputs
-  inputs-unchanged = deps-unchanged (l .shape) (l .inputs) (s .form .inputs-fit .lengths) (s .form .inputs-fit .increase) (s .sizes .inputs-few)
+  inputs-unchanged : stretchDeps mode (l .shape) (l .shape) (l .inputs) ≡ l .inputs
+  inputs-unchanged = deps-unchanged mode (l .shape) (l .inputs) (s .form .inputs-fit .lengths) (s .form .inputs-fit .increase) (s .sizes .inputs-few)
 
   -- stretched to its own shape it is given
-  pub unchanged-given : broadcastToShape l (l .shape) ≡ given (stretched l (l .shape))
+  pub unchanged-given : broadcastToShape mode l (l .shape) ≡ given (stretched mode l (l .shape))
   unfolding stretched
   unchanged-given =
-      stretch-given (record { fits = shared-same (l .shape); room = omega arith }) s (s .form .rank-most) (s .sizes .product-most)
+      stretch-given mode (record { fits = shared-same (l .shape); room = omega arith }) s (s .form .rank-most) (s .sizes .product-most)
       (true-implies (isDiagonal l) (alike (take (width l) (l .shape))) (λ e. s .form .diagonal-alike (eqb-true (l .kind) 1 e)))
       ∙ rw (
         rows-unchanged l,
@@ -107,7 +114,7 @@ module _ {l : Layout} (s : Sound l) where
       )
 
   -- and the same, if its rows are in order
-  pub unchanged-same : Increasing (l .rows) → stretched l (l .shape) ≡ l
+  pub unchanged-same : Increasing (l .rows) → stretched mode l (l .shape) ≡ l
   unfolding stretched
   unchanged-same i =
       let d : l .dense + length (l .shape) - rank l ≡ l .dense = omega arith in

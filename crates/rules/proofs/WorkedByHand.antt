@@ -4,6 +4,7 @@ use mathlib.Core.Bool.{true, false}
 use mathlib.Core.List.{List, [], _∷_}
 use Prim.Native.Nat.{ℕ}
 use lib.IntN.{pos}
+use Rattle.rules.specs.declared.Mode.the-variants.{Alone, Together}
 use Rattle.rules.specs.Lists.{all, any, keep, gather, none, from, product, sum, largest, same, sameRows, allBelow, with, fitTo}
 use Rattle.rules.specs.Buffers.{part, zeros}
 use Rattle.rules.specs.RowsInOrder.{cmpRows, increasing, insert, sorted, sortedOnto}
@@ -17,7 +18,7 @@ use Rattle.rules.specs.Positions.{ravelIndex}
 use Rattle.rules.specs.Dependencies.{onIndex, held, filterDeps}
 use Rattle.rules.specs.Lookup.{readIndex, placeFrom, placeOf, lookup, findNnzIndexCall}
 use Rattle.rules.specs.CountsAndForms.{minRankOf, toDense, denseIfFull, dense}
-use Rattle.rules.specs.Stretching.{sharedAxesFit, stretchedAxes, everyValue, takeAll, stretchRows, stretchDeps, stretched, broadcastToShape}
+use Rattle.rules.specs.Stretching.{sharedAxesFit, stretchedAxes, everyValue, takeAll, stretchRows, yields, stretchDeps, stretched, broadcastToShape}
 use Rattle.rules.specs.Removal.{positions, removedRows, removedDeps, listsRow, removeDenseAxes}
 use Rattle.rules.specs.Holding.{holds, heldPositions}
 use Rattle.rules.specs.Pairs.{lowered, expanded}
@@ -56,8 +57,16 @@ pub record Table : Type 0 where
   -- P5: on a diagonal the original index counts
   pub p5 : lookup (layout 1 0 (two 1 1) [] []) (two 3 3) ≡ nothing
   -- P6: both axes stretch, each alone
-  pub p6 : broadcastToShape (layout 0 2 (two 1 1) [] ((0 ∷ 0 ∷ 7 ∷ []) ∷ [])) (two 2 2)
+  pub p6 : broadcastToShape Alone (layout 0 2 (two 1 1) [] ((0 ∷ 0 ∷ 7 ∷ []) ∷ [])) (two 2 2)
       ≡ given (layout 0 2 (two 2 2) [] ((0 ∷ 0 ∷ 7 ∷ []) ∷ (0 ∷ 1 ∷ 7 ∷ []) ∷ (1 ∷ 0 ∷ 7 ∷ []) ∷ []))
+  -- the same in mode 1: both axes stretch together
+  pub together : broadcastToShape Together (layout 0 2 (two 1 1) [] ((0 ∷ 0 ∷ 7 ∷ []) ∷ [])) (two 2 2)
+      ≡ given (layout 0 2 (two 2 2) [] ((0 ∷ 0 ∷ 7 ∷ []) ∷ (0 ∷ 1 ∷ 7 ∷ []) ∷ (1 ∷ 0 ∷ 7 ∷ []) ∷ (1 ∷ 1 ∷ 7 ∷ []) ∷ []))
+  -- a dependency outside the new extents on stretched axes: mode 0 keeps it, mode 1 does not
+  pub outside-alone : broadcastToShape Alone (layout 0 1 (1 ∷ []) [] (dep 5 7 ∷ [])) (2 ∷ [])
+      ≡ given (layout 0 1 (2 ∷ []) [] (dep 0 7 ∷ dep 1 7 ∷ dep 5 7 ∷ []))
+  pub outside-together : broadcastToShape Together (layout 0 1 (1 ∷ []) [] (dep 5 7 ∷ [])) (2 ∷ [])
+      ≡ given (layout 0 1 (2 ∷ []) [] (dep 0 7 ∷ dep 1 7 ∷ []))
   -- P7: a dense axis contracted leaves no rows
   pub p7 : contractLastAxis (layout 2 1 (two 2 2) ((1 ∷ []) ∷ []) []) ≡ given (layout 2 0 (2 ∷ []) [] [])
   -- P8: no blocks make the scalar
@@ -91,7 +100,7 @@ unfolding all any keep gather none from product sum largest same sameRows allBel
     entriesFrom sectionAt walk natural rowsOf entriesOf layoutBy layoutIn sound ordered upTo goodComponents
     extents commonShape shapesAgree broadcastShapes ravelIndex onIndex held filterDeps
     readIndex placeFrom placeOf lookup findNnzIndexCall minRankOf toDense denseIfFull dense
-    sharedAxesFit stretchedAxes everyValue takeAll stretchRows stretchDeps stretched broadcastToShape
+    sharedAxesFit stretchedAxes everyValue takeAll stretchRows yields stretchDeps stretched broadcastToShape
     positions removedRows removedDeps listsRow removeDenseAxes holds expanded lowered unionOfRows union intersect
     shortenedDeps contracted contractLastAxis repeats isPermutation movedTo moved permuted permute
     concatenate cutDeps filterDepsFrom
@@ -104,6 +113,9 @@ table = record {
   p4 = refl;
   p5 = refl;
   p6 = refl;
+  together = refl;
+  outside-alone = refl;
+  outside-together = refl;
   p7 = refl;
   p8 = refl;
   p9 = refl;

@@ -52,3 +52,7 @@ goodEnd n = upTo productLimit n
 -- 5: a flag is 0 or 1
 abbrev pub goodFlag : ℤ → Bool
 goodFlag n = upTo 1 n
+
+-- 5: a mode of stretching is 0 or 1
+abbrev pub goodMode : ℤ → Bool
+goodMode n = upTo 1 n

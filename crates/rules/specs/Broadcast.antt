@@ -5,16 +5,18 @@ use Prim.Native.Nat.{ℕ}
 use lib.ListN.{length, getD}
 use lib.Dec.{eqb}
 use lib.IntN.{ℤ}
+use Rattle.rules.specs.declared.Mode.{Mode}
+use Rattle.rules.specs.declared.Mode.the-variants.{Alone}
 use Rattle.rules.specs.declared.Rule.{Rule}
 use Rattle.rules.specs.declared.Rule.the-variants.{Unite, Multiply, Divide}
 use Rattle.rules.specs.Lists.{if, all, any, product}
 use Rattle.rules.specs.Refusals.{Verdict, given, refused, _then_, _when_, lowest}
 use Rattle.rules.specs.Layout.{Layout, rank, isDense, isSparse, alike, made}
 use Rattle.rules.specs.Record.{recordsIn, layoutIn, sound}
-use Rattle.rules.specs.Arguments.{overCount, overRecord, shortResult, shortWork}
+use Rattle.rules.specs.Arguments.{overCount, overRecord, shortResult, shortWork, goodMode}
 use Rattle.rules.specs.Shapes.{broadcastShapes}
 use Rattle.rules.specs.CountsAndForms.{toDense, eqNonzeros}
-use Rattle.rules.specs.Stretching.{broadcastToShape}
+use Rattle.rules.specs.Stretching.{broadcastToShape, modeOf}
 use Rattle.rules.specs.Union.{union}
 use Rattle.rules.specs.Intersect.{intersect}
 
@@ -29,10 +31,10 @@ combine Multiply a b = intersect a b
 combine Divide a b = intersect a b
 
 -- each stretching in list order
-unfoldable pub stretchAll : List ℕ → List Layout → Verdict (List Layout)
-stretchAll shape [] = given []
-stretchAll shape (l ∷ layouts) =
-    broadcastToShape l shape then λ first. stretchAll shape layouts then λ others. given (first ∷ others)
+unfoldable pub stretchAll : Mode → List ℕ → List Layout → Verdict (List Layout)
+stretchAll mode shape [] = given []
+stretchAll mode shape (l ∷ layouts) =
+    broadcastToShape mode l shape then λ first. stretchAll mode shape layouts then λ others. given (first ∷ others)
 
 -- 9: a '/' whose last is sparse and whose next-to-last is dense or differs
 abbrev pub dividesBySparse : Rule → Layout → Layout → Bool
@@ -76,18 +78,26 @@ endOfBroadcast l =
     (lowest (12 when eqb (rank l) 0 ∷ []) then λ _. if (isDiagonalInRows l) (made (asDiagonal l)) (given l)))
 
 -- all stretched to the common shape, folded from the last
-unfoldable pub broadcast : List Layout → Rule → Verdict Layout
-broadcast layouts rule =
+unfoldable pub broadcast : Mode → List Layout → Rule → Verdict Layout
+broadcast mode layouts rule =
     broadcastShapes (map (λ l. l .shape) layouts) then λ shape.
-    stretchAll shape layouts then λ all.
+    stretchAll mode shape layouts then λ all.
     foldBack rule (reverse all) then λ l.
     endOfBroadcast l
 
--- ---- the call
+-- ---- the calls
 
 unfoldable pub broadcastCall : List ℤ → ℤ → ℕ → ℕ → ℕ → Verdict Layout
 broadcastCall s n operator result work =
     lowest
     (1 when (overCount n || any overRecord (recordsIn n s)) ∷ 2 when (shortResult result || shortWork work)
     ∷ 3 when not (all sound (recordsIn n s)) ∷ [])
-    then λ _. broadcast (map layoutIn (recordsIn n s)) (ruleOf operator)
+    then λ _. broadcast Alone (map layoutIn (recordsIn n s)) (ruleOf operator)
+
+-- 5: a mode other than 0 or 1
+unfoldable pub broadcastWithModeCall : List ℤ → ℤ → ℕ → ℤ → ℕ → ℕ → Verdict Layout
+broadcastWithModeCall s n operator mode result work =
+    lowest
+    (1 when (overCount n || any overRecord (recordsIn n s)) ∷ 2 when (shortResult result || shortWork work)
+    ∷ 3 when not (all sound (recordsIn n s)) ∷ 5 when not (goodMode mode) ∷ [])
+    then λ _. broadcast (modeOf mode) (map layoutIn (recordsIn n s)) (ruleOf operator)

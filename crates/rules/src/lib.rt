@@ -48,6 +48,12 @@ pub enum Rule {
     Divide,
 }
 
+// What a stretched dependency yields: every value on each stretched axis alone, or every combination of values on all of them together.
+pub enum Mode {
+    Alone,
+    Together,
+}
+
 // How many numbers of the result buffer were written, or a refusal.
 pub enum Written {
     Numbers(usize),

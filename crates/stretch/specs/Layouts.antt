@@ -6,6 +6,7 @@ use Prim.Native.Nat.{ℕ, _+_, _≤_}
 use lib.IntN.{ℤ}
 use lib.ListN.{length}
 use Rattle.rules.specs.declared.Head.{Head}
+use Rattle.rules.specs.declared.Mode.{Mode}
 use Rattle.rules.specs.Layout.{Layout, width, few}
 use Rattle.rules.specs.Stretching.{stretchRows, stretchDeps, sharedAxesFit}
 use Rattle.tables.specs.Rows.{rowAt}
@@ -26,10 +27,10 @@ pub record FillAsked (h : Head) (from : List ℤ) (at rank : ℕ) (shape s : Lis
   pub wide : h .width ≤ rank
   pub room : partSize ≤ length s
 
--- the tables of a layout stretched to a shape stand in the part, if none is too long
-pub record TablesMade (l : Layout) (new : List ℕ) (s t : List ℤ) (r : Bool) : Type 0 where
-  pub verdict : r ≡ few (stretchRows l new) && few (stretchDeps (l .shape) new (l .states)) && few (stretchDeps (l .shape) new (l .inputs))
+-- the tables of a layout stretched in a mode to a shape stand in the part, if none is too long
+pub record TablesMade (mode : Mode) (l : Layout) (new : List ℕ) (s t : List ℤ) (r : Bool) : Type 0 where
+  pub verdict : r ≡ few (stretchRows l new) && few (stretchDeps mode (l .shape) new (l .states)) && few (stretchDeps mode (l .shape) new (l .inputs))
   pub rows : r ≡ true → tableAt rowsFrom (width l) t ≡ stretchRows l new
-  pub states : r ≡ true → tableAt statesFrom (length new + 1) t ≡ stretchDeps (l .shape) new (l .states)
-  pub inputs : r ≡ true → tableAt inputsFrom (length new + 1) t ≡ stretchDeps (l .shape) new (l .inputs)
+  pub states : r ≡ true → tableAt statesFrom (length new + 1) t ≡ stretchDeps mode (l .shape) new (l .states)
+  pub inputs : r ≡ true → tableAt inputsFrom (length new + 1) t ≡ stretchDeps mode (l .shape) new (l .inputs)
   pub only : Only rowsFrom partSize s t

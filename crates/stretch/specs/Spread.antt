@@ -8,6 +8,7 @@ use lib.ListN.{length, getD}
 use Rattle.rules.specs.Lists.{if, below}
 use Rattle.rules.specs.Layout.{withinProduct}
 use Rattle.rules.specs.Stretching.{isStretched}
+use Rattle.cells.specs.View.{view}
 use Rattle.tables.specs.Rows.{rowAt}
 
 -- both shapes lie in their slices and have at most 4 extents; the new one is within the limit
@@ -29,6 +30,11 @@ valuesOn old new axis = if (isStretched old new axis) (getD new axis 0) 1
 -- how many each of the first w axes takes
 abbrev pub spreadOver : List ℕ → List ℕ → ℕ → List ℕ
 spreadOver old new w = map (valuesOn old new) (below w)
+
+-- so many numbers stand in a row of five, and 1 behind them
+pub record SpreadIs (old new : List ℕ) (w : ℕ) (extents : List ℤ) : Type 0 where
+  pub values : rowAt 0 w extents ≡ spreadOver old new w
+  pub behind : getD (view extents) w 0 ≡ 1
 
 -- number by number the sum of two rows
 unfoldable pub plus : List ℕ → List ℕ → List ℕ

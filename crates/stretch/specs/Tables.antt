@@ -1,15 +1,16 @@
 -- What is put into a table of the part.
 use mathlib.Core.Path.{_≡_}
-use mathlib.Core.List.{List, [], _∷_}
-use Prim.Native.Nat.{ℕ, _+_, _*_, _≤_, _<_}
+use mathlib.Core.List.{List, [], _∷_, List·Memᴰ}
+use Prim.Native.Nat.{ℕ, _+_, _*_, _^_, _≤_, _<_}
 use lib.IntN.{ℤ}
 use lib.ListN.{length, getD}
+use Rattle.rules.specs.declared.Mode.{Mode}
 use Rattle.rules.specs.Limits.{productLimit}
 use Rattle.rules.specs.Lists.{if, gather, below, product, fitTo}
 use Rattle.rules.specs.RowsInOrder.{Each}
 use Rattle.rules.specs.Positions.{unravel}
 use Rattle.rules.specs.Dependencies.{onIndex}
-use Rattle.rules.specs.Stretching.{isStretched, stretchedAxes, everyValue, alone}
+use Rattle.rules.specs.Stretching.{isStretched, stretchedAxes, everyValue, yields}
 use Rattle.tables.specs.Rows.{rowAt, rowsAt, HasRow, HasRows}
 use Rattle.tables.specs.Tables.{roomEnd, Ready}
 use Rattle.axes.specs.Extents.{Extents}
@@ -40,43 +41,48 @@ pub record EntryAsked (entry : List ℤ) (old : ℕ) (from : List ℤ) (at rank 
 abbrev pub yieldOn : List ℕ → List ℕ → List ℕ → ℕ → List (List ℕ)
 yieldOn old new d axis = if (isStretched old new axis) (everyValue new d axis) []
 
+-- r is d with 0 on each stretched axis
+pub record Cleared (old new d r : List ℕ) : Type 0 where
+  pub size : length r ≡ length d
+  pub zero : (k : ℕ) → List·Memᴰ k (stretchedAxes old new) → getD r k 0 ≡ 0
+  pub kept : (k : ℕ) → (List·Memᴰ k (stretchedAxes old new) → ⊥) → getD r k 0 ≡ getD d k 0
+
 -- some dependencies of a record, both shapes, and room for a table
 pub record DepsAsked (first count old : ℕ) (from : List ℤ) (at rank : ℕ) (shape : List ℤ) (to : ℕ) (s : List ℤ) : Type 0 where
   pub rows : HasRows first (old + 1) count from
   pub shapes : Shapes old from at rank shape
   pub room : roomEnd to (rank + 1) ≤ length s
 
--- what they yield, fitted to the new shape
-abbrev pub yielded : ℕ → ℕ → ℕ → List ℤ → List ℕ → List (List ℕ)
-yielded first count old from new =
-    gather (λ d. alone new (stretchedAxes (extentsIn old from) new) (onIndex (fitTo (length new) 0) d)) (rowsAt first (old + 1) count from)
+-- what they yield in a mode, fitted to the new shape
+abbrev pub yielded : Mode → ℕ → ℕ → ℕ → List ℤ → List ℕ → List (List ℕ)
+yielded mode first count old from new =
+    gather (λ d. yields mode new (stretchedAxes (extentsIn old from) new) (onIndex (fitTo (length new) 0) d)) (rowsAt first (old + 1) count from)
 
--- ---- rows
+-- ---- rows plus every index
 
--- a row and an index whose numbers are small
+-- a row and an index whose sums are below 2 ^ 31
 pub record AddAsked (at w : ℕ) (from index : List ℤ) : Type 0 where
   pub room : at + w ≤ length from
-  pub narrow : w ≤ 4
+  pub narrow : w ≤ 5
   pub long : length index ≡ 5
-  pub row-small : (k : ℕ) → k < w → getD (rowAt at w from) k 0 ≤ productLimit
-  pub index-small : (k : ℕ) → k < w → getD (rowAt 0 w index) k 0 ≤ productLimit
+  pub sums-low : (k : ℕ) → k < w → getD (rowAt at w from) k 0 + getD (rowAt 0 w index) k 0 < 2 ^ 31
 
--- a row, and the number of an index over extents
+-- a row, and the number of an index over extents; their sums are at most 2 ^ 31
 pub record MoveAsked (at w : ℕ) (from extents : List ℤ) (number : ℕ) : Type 0 where
   pub room : at + w ≤ length from
-  pub narrow : w ≤ 4
-  pub row-small : (k : ℕ) → k < w → getD (rowAt at w from) k 0 ≤ productLimit
+  pub narrow : w ≤ 5
+  pub sums-most : (k : ℕ) → k < w → getD (rowAt at w from) k 0 + getD (rowAt 0 w extents) k 0 ≤ 2 ^ 31
   pub extents-are : Extents 0 w extents
   pub inside : number < product (rowAt 0 w extents)
 
--- a row, the number of all indices, and rows of a part
-pub record MovesAsked (at w : ℕ) (from extents : List ℤ) (size : ℕ) (s : List ℤ) : Type 0 where
+-- a row, the number of all indices, and a table that can take such rows
+pub record MovesAsked (at w : ℕ) (from extents : List ℤ) (size to : ℕ) (s : List ℤ) : Type 0 where
   pub room : at + w ≤ length from
-  pub narrow : w ≤ 4
-  pub row-small : (k : ℕ) → k < w → getD (rowAt at w from) k 0 ≤ productLimit
+  pub narrow : w ≤ 5
+  pub sums-most : (k : ℕ) → k < w → getD (rowAt at w from) k 0 + getD (rowAt 0 w extents) k 0 ≤ 2 ^ 31
   pub extents-are : Extents 0 w extents
   pub size-is : size ≡ product (rowAt 0 w extents)
-  pub target : Ready rowsFrom w s
+  pub target : Ready to w s
 
 -- some rows of a record with small numbers, extents, and room for rows
 pub record RowsAsked (first count w : ℕ) (from extents s : List ℤ) : Type 0 where

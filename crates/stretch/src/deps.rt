@@ -1,13 +1,17 @@
-// Dependencies: each yields itself fitted to the new rank, and for each stretched axis alone every value there.
+// Dependencies: what each of them, fitted to the new rank, yields on the stretched axes. In mode 0 that is itself, and for each of these axes
+// alone every value there; in mode 1 it is every combination of values on all of them.
 ghost use mathlib.Core.List.{[], _∷_};
 ghost use Prim.Native.Nat.{_+_, _<_};
 ghost use Rattle.rules.specs.Lists.{with};
-ghost use Rattle.rules.specs.Stretching.{stretchedAxes, alone};
+ghost use Rattle.rules.specs.Stretching.{stretchedAxes, alone, together, yields};
 ghost use Rattle.tables.specs.Rows.{rowAt};
 ghost use Rattle.tables.specs.Tables.{Taken, Listed};
-ghost use Rattle.stretch.specs.Spread.{extentsIn};
-ghost use Rattle.stretch.specs.Tables.{inTurn, ValuesAsked, EntryAsked, yieldOn, DepsAsked, yielded};
+ghost use Rattle.stretch.specs.Spread.{Shapes, extentsIn};
+ghost use Rattle.stretch.specs.Tables.{inTurn, ValuesAsked, EntryAsked, yieldOn, Cleared, DepsAsked, yielded};
+use super::every::put_moved;
 use super::spread::is_stretched;
+use super::spread::spread_extents;
+use rules::Mode;
 
 // The entry with every value on one axis is put into the table; false where that makes too many entries.
 fn put_values(
@@ -83,8 +87,71 @@ fn put_alone(
     true
 }
 
-// What the dependencies yield becomes a table of the part, in order and once each; false where they are too many.
+// The entry with 0 on each stretched axis.
+fn cleared(
+    entry: [i32; 5],
+    from: &[i32],
+    old: usize,
+    shape: &[i32],
+    at: usize,
+    rank: usize,
+) -> [i32; 5]
+    requires { ⌜ Shapes old (now from) at rank (now shape) ⌝ }
+    ensures { λ r. ⌜ Cleared (extentsIn old (now (from .entry))) (rowAt at rank (now (shape .entry))) (rowAt 0 (rank + 1) entry) (rowAt 0 (rank + 1) r) ⌝ }
+{
+    let mut row = entry;
+    for axis in 0..rank {
+        if is_stretched(from, old, shape, at, axis) {
+            cells::store(&mut row, axis, 0);
+        }
+    }
+    row
+}
+
+// The entry with every combination of values on all stretched axes is put into the table; false where that makes too many entries.
+fn put_together(
+    entry: [i32; 5],
+    from: &[i32],
+    old: usize,
+    shape: &[i32],
+    at: usize,
+    rank: usize,
+    part: &mut [i32],
+    to: usize,
+) -> bool
+    requires { ⌜ EntryAsked entry old (now from) at rank (now shape) to (now part) ⌝ }
+    ensures { λ r. ⌜ Taken to (rank + 1) (together (rowAt at rank (now (shape .entry))) (stretchedAxes (extentsIn old (now (from .entry))) (rowAt at rank (now (shape .entry)))) (rowAt 0 (rank + 1) entry)) (now (part .entry)) (now (part .exit)) r ⌝ }
+{
+    let row = cleared(entry, from, old, shape, at, rank);
+    let extents = spread_extents(from, old, shape, at, rank, rank);
+    let size = axes::product(&extents, 0, rank + 1);
+    put_moved(&row, 0, rank + 1, extents, size, part, to)
+}
+
+// What the entry yields in a mode is put into the table; false where that makes too many entries.
+fn put_yield(
+    mode: Mode,
+    entry: [i32; 5],
+    from: &[i32],
+    old: usize,
+    shape: &[i32],
+    at: usize,
+    rank: usize,
+    part: &mut [i32],
+    to: usize,
+) -> bool
+    requires { ⌜ EntryAsked entry old (now from) at rank (now shape) to (now part) ⌝ }
+    ensures { λ r. ⌜ Taken to (rank + 1) (yields mode (rowAt at rank (now (shape .entry))) (stretchedAxes (extentsIn old (now (from .entry))) (rowAt at rank (now (shape .entry)))) (rowAt 0 (rank + 1) entry)) (now (part .entry)) (now (part .exit)) r ⌝ }
+{
+    match mode {
+        Mode::Alone => put_alone(entry, from, old, shape, at, rank, part, to),
+        Mode::Together => put_together(entry, from, old, shape, at, rank, part, to),
+    }
+}
+
+// What the dependencies yield in a mode becomes a table of the part, in order and once each; false where they are too many.
 pub fn stretch_deps(
+    mode: Mode,
     from: &[i32],
     first: usize,
     count: usize,
@@ -96,13 +163,13 @@ pub fn stretch_deps(
     to: usize,
 ) -> bool
     requires { ⌜ DepsAsked first count old (now from) at rank (now shape) to (now part) ⌝ }
-    ensures { λ r. ⌜ Listed to (rank + 1) (yielded first count old (now (from .entry)) (rowAt at rank (now (shape .entry)))) (now (part .entry)) (now (part .exit)) r ⌝ }
+    ensures { λ r. ⌜ Listed to (rank + 1) (yielded mode first count old (now (from .entry)) (rowAt at rank (now (shape .entry)))) (now (part .entry)) (now (part .exit)) r ⌝ }
 {
     cells::store(part, to, 0);
     let mut i = 0;
     while i < count {
         let entry = moving::fitted(from, first + i * (old + 1), old, rank);
-        if !put_alone(entry, from, old, shape, at, rank, part, to) {
+        if !put_yield(mode, entry, from, old, shape, at, rank, part, to) {
             return false;
         }
         i += 1;

@@ -1,5 +1,6 @@
 // A record stretched to another shape, into a part of the working buffer: which axes stretch, and what a row and a dependency take there.
 mod spread; // spread.rt: which axes stretch
+mod every; // every.rt: every combination of values on some axes
 mod rows; // rows.rt: the rows
 mod deps; // deps.rt: the dependencies
 
@@ -20,6 +21,7 @@ ghost use Rattle.stretch.specs.Layouts.{StretchAsked, FillAsked, TablesM
 use deps::stretch_deps;
 use rows::stretch_rows;
 use rules::Head;
+use rules::Mode;
 use rules::Refusal;
 use rules::Step;
 use spread::cut_fit;
@@ -28,9 +30,17 @@ use spread::shared_fit;
 use spread::spread_extents;
 
 // The rows and both lists of dependencies go into the part; false where one of them is too long.
-fn fill(from: &[i32], head: Head, shape: &[i32], at: usize, rank: usize, part: &mut [i32]) -> bool
+fn fill(
+    mode: Mode,
+    from: &[i32],
+    head: Head,
+    shape: &[i32],
+    at: usize,
+    rank: usize,
+    part: &mut [i32],
+) -> bool
     requires { ⌜ FillAsked head (now from) at rank (now shape) (now part) ⌝ }
-    ensures { λ r. ⌜ TablesMade (layoutIn (now (from .entry))) (rowAt at rank (now (shape .entry))) (now (part .entry)) (now (part .exit)) r ⌝ }
+    ensures { λ r. ⌜ TablesMade mode (layoutIn (now (from .entry))) (rowAt at rank (now (shape .entry))) (now (part .entry)) (now (part .exit)) r ⌝ }
 {
     let old = head.rank;
     let rows = head.rows;
@@ -41,6 +51,7 @@ fn fill(from: &[i32], head: Head, shape: &[i32], at: usize, rank: usize, part: &
         return false;
     }
     if !stretch_deps(
+        mode,
         from,
         states.first,
         states.count,
@@ -54,6 +65,7 @@ fn fill(from: &[i32], head: Head, shape: &[i32], at: usize, rank: usize, part: &
         return false;
     }
     stretch_deps(
+        mode,
         from,
         inputs.first,
         inputs.count,
@@ -77,8 +89,9 @@ fn bends(from: &[i32], width: usize, shape: &[i32], at: usize) -> bool
     !records::alike(shape, at, width)
 }
 
-// The record stretched to the shape of `rank` extents at a place goes into the part.
+// The record stretched in a mode to the shape of `rank` extents at a place goes into the part.
 pub fn stretch_into(
+    mode: Mode,
     from: &[i32],
     head: Head,
     shape: &[i32],
@@ -88,7 +101,7 @@ pub fn stretch_into(
 ) -> Step
     requires { ⌜ StretchAsked head (now from) at rank (now shape) ⌝ }
     requires { ⌜ partSize ≤ length (now part) ⌝ }
-    ensures { λ r. ⌜ Says (broadcastToShape (layoutIn (now (from .entry))) (rowAt at rank (now (shape .entry)))) 0 (now (part .exit)) r ⌝ }
+    ensures { λ r. ⌜ Says (broadcastToShape mode (layoutIn (now (from .entry))) (rowAt at rank (now (shape .entry)))) 0 (now (part .exit)) r ⌝ }
 {
     if !shared_fit(from, head.rank, shape, at, rank) {
         return Step::Refused(Refusal::ShapesDisagree);
@@ -102,21 +115,27 @@ pub fn stretch_into(
     let kind = cells::get(from, records::KIND);
     let end = at + rank;
     moving::write_head(part, kind, rank - head.width, &shape[at..end]);
-    if fill(from, head, shape, at, rank, part) {
+    if fill(mode, from, head, shape, at, rank, part) {
         return Step::Done;
     }
     Step::Refused(Refusal::MadeTooLarge)
 }
 
-// The record stretched or cut to a rank goes into the part.
-pub fn stretch_to_rank(from: &[i32], head: Head, rank: usize, part: &mut [i32]) -> Step
+// The record stretched in a mode, or cut, to a rank goes into the part.
+pub fn stretch_to_rank(
+    mode: Mode,
+    from: &[i32],
+    head: Head,
+    rank: usize,
+    part: &mut [i32],
+) -> Step
     requires { ⌜ SoundRecord head (now from) × (rank ≤ 4) ⌝ }
     requires { ⌜ partSize ≤ length (now part) ⌝ }
-    ensures { λ r. ⌜ Says (broadcastToRank (layoutIn (now (from .entry))) rank) 0 (now (part .exit)) r ⌝ }
+    ensures { λ r. ⌜ Says (broadcastToRank mode (layoutIn (now (from .entry))) rank) 0 (now (part .exit)) r ⌝ }
 {
     if !cut_fit(from, head.rank, rank) {
         return Step::Refused(Refusal::ShapesDisagree);
     }
     let extents = fitted_extents(from, head.rank, rank);
-    stretch_into(from, head, &extents, 0, rank, part)
+    stretch_into(mode, from, head, &extents, 0, rank, part)
 }

@@ -8,7 +8,7 @@ ghost use Rattle.rules.specs.Lists.{all, fitTo};
 ghost use Rattle.rules.specs.Stretching.{sharedAxesFit, isStretched};
 ghost use Rattle.cells.specs.View.{view};
 ghost use Rattle.tables.specs.Rows.{rowAt};
-ghost use Rattle.stretch.specs.Spread.{Shapes, extentsIn, valuesOn, spreadOver};
+ghost use Rattle.stretch.specs.Spread.{Shapes, extentsIn, valuesOn, SpreadIs};
 use records::EXTENTS;
 
 // Whether an extent may become another one: it is 1, or the same.
@@ -86,7 +86,7 @@ fn values(from: &[i32], old: usize, shape: &[i32], at: usize, axis: usize) -> us
     1
 }
 
-// How many values each of the first w axes takes.
+// How many values each of the first w axes takes, and 1 behind them.
 pub fn spread_extents(
     from: &[i32],
     old: usize,
@@ -94,12 +94,12 @@ pub fn spread_extents(
     at: usize,
     rank: usize,
     w: usize,
-) -> [i32; 4]
+) -> [i32; 5]
     requires { ⌜ Shapes old (now from) at rank (now shape) ⌝ }
     requires { ⌜ w ≤ rank ⌝ }
-    ensures { λ r. ⌜ rowAt 0 w r ≡ spreadOver (extentsIn old (now (from .entry))) (rowAt at rank (now (shape .entry))) w ⌝ }
+    ensures { λ r. ⌜ SpreadIs (extentsIn old (now (from .entry))) (rowAt at rank (now (shape .entry))) w r ⌝ }
 {
-    let mut extents = [1i32; 4];
+    let mut extents = [1i32; 5];
     for k in 0..w {
         cells::store(&mut extents, k, values(from, old, shape, at, k));
     }

@@ -7,7 +7,7 @@ use lib.IntN.{ℤ, pos, negsuc}
 use Rattle.rules.specs.declared.Ordering.{Ordering}
 use Rattle.rules.specs.declared.Ordering.the-variants.{Less, Equal, Greater}
 use Rattle.rules.specs.Arguments.{upTo, goodComponents}
-use Rattle.rules.specs.Broadcast.{ruleOf, combine, stretchAll, foldOnto, foldBack, endOfBroadcast, broadcast, broadcastCall}
+use Rattle.rules.specs.Broadcast.{ruleOf, combine, stretchAll, foldOnto, foldBack, endOfBroadcast, broadcast, broadcastCall, broadcastWithModeCall}
 use Rattle.rules.specs.Buffers.{part, over, put}
 use Rattle.rules.specs.Concatenate.{startAt, joinDense, firstD, lastAgree, agree, movedBy, joinSparse, joinOther, joinedDeps, joinBlocks, concatenate, blockOf, concatenateCall}
 use Rattle.rules.specs.ContractLastAxis.{shortenedDeps, contracted, contractLastAxis, contractLastAxisCall}
@@ -22,13 +22,14 @@ use Rattle.rules.specs.Lists.{all, any, keep, gather, none, from, produc
 use Rattle.rules.specs.Lookup.{readIndex, placeFrom, placeOf, lookup, findNnzIndexCall}
 use Rattle.rules.specs.Pairs.{expanded, lowered}
 use Rattle.rules.specs.Permute.{repeats, isPermutation, movedTo, moved, permuted, permute, permuteCall}
+use Rattle.rules.specs.Pile.{belongs, exchange, exchanged, exchangesMade, howMany, nonzeros, exchangeCall, exchangesFrom, exchangeAllCall, exchangesIn}
 use Rattle.rules.specs.Positions.{ravelIndex, unravel, unravelIndex, ravelIndexCall, unravelIndexCall, cmpIndexCall}
 use Rattle.rules.specs.Record.{entriesFrom, sectionAt, walk, natural, rowsOf, entriesOf, layoutBy, layoutIn, sound, ordered, row, rowPlace, behindRecord, behindShape, endToEnd, listCount, shapeIn, goodShape, blockAt, behindBlock, blocksIn}
 use Rattle.rules.specs.Refusals.{numberOf, lowest, Verdict, given, refused, inForm}
 use Rattle.rules.specs.Removal.{positions, removedRows, removedDeps, listsRow, removeDenseAxes}
 use Rattle.rules.specs.RowsInOrder.{cmpRows, increasing, insert, sorted, sortedOnto}
 use Rattle.rules.specs.Shapes.{extents, commonShape, shapesAgree, broadcastShapes, canBroadcastTo, broadcastShapesCall, canBroadcastToCall}
-use Rattle.rules.specs.Stretching.{sharedAxesFit, stretchedAxes, everyValue, takeAll, stretchRows, stretchDeps, stretched, broadcastToShape, broadcastToRank, broadcastToShapeCall, broadcastToRankCall}
+use Rattle.rules.specs.Stretching.{sharedAxesFit, stretchedAxes, everyValue, takeAll, stretchRows, yields, stretchDeps, stretched, broadcastToShape, broadcastToRank, broadcastToShapeCall, broadcastToRankCall, modeOf, broadcastToShapeWithModeCall, broadcastToRankWithModeCall}
 use Rattle.rules.specs.Union.{unionOfRows, union, unionCall}
 
 -- numbers of a slice, none of them negative
@@ -36,7 +37,7 @@ abbrev pub nums : List ℕ → List ℤ
 nums l = map pos l
 
 unfoldable pub askBroadcastShapes : List ℤ → ℤ → Verdict (List ℕ)
-unfolding upTo combine stretchAll foldOnto foldBack endOfBroadcast broadcast part over put firstD lastAgree agree eqNonzeros toDense denseIfFull dense diagonal sparse onIndex held filterDeps barsFilter holds withDense intersectOfRows intersect withinProduct alike wellFormed withinSizes soundLayout made all any keep gather none from product largest same sameRows allBelow with fitTo expanded lowered entriesFrom sectionAt walk natural rowsOf entriesOf layoutBy sound row behindShape endToEnd listCount shapeIn goodShape lowest positions removedRows removedDeps listsRow removeDenseAxes cmpRows increasing insert sorted sortedOnto extents commonShape shapesAgree broadcastShapes broadcastShapesCall sharedAxesFit stretchedAxes everyValue takeAll stretchRows stretchDeps stretched broadcastToShape unionOfRows union
+unfolding upTo combine stretchAll foldOnto foldBack endOfBroadcast broadcast part over put firstD lastAgree agree eqNonzeros toDense denseIfFull dense diagonal sparse onIndex held filterDeps barsFilter holds withDense intersectOfRows intersect withinProduct alike wellFormed withinSizes soundLayout made all any keep gather none from product largest same sameRows allBelow with fitTo expanded lowered belongs entriesFrom sectionAt walk natural rowsOf entriesOf layoutBy layoutIn sound ordered row behindShape endToEnd listCount shapeIn goodShape lowest positions removedRows removedDeps listsRow removeDenseAxes cmpRows increasing insert sorted sortedOnto extents commonShape shapesAgree broadcastShapes broadcastShapesCall sharedAxesFit stretchedAxes everyValue takeAll stretchRows yields stretchDeps stretched broadcastToShape unionOfRows union
 askBroadcastShapes a b = broadcastShapesCall a b
 
 unfoldable pub askCanBroadcastTo : List ℤ → List ℤ → Verdict (Bool)
@@ -100,15 +101,15 @@ unfolding part over put dense diagonal sparse sparseCall held holds withinProduc
 askSparse a b c d = inForm encode (sparseCall a b c d)
 
 unfoldable pub askToDataLayout : List ℤ → ℕ → Verdict (List ℤ)
-unfolding part over put dense diagonal sparse toDataLayout toDataLayoutCall onIndex held holds withinProduct alike wellFormed withinSizes soundLayout made all any keep gather none from product same allBelow with fitTo entriesFrom sectionAt walk natural rowsOf entriesOf layoutBy layoutIn sound row lowest positions cmpRows increasing insert sorted sortedOnto extents stretchedAxes everyValue takeAll stretchRows stretchDeps stretched
+unfolding part over put dense diagonal sparse toDataLayout toDataLayoutCall onIndex held holds withinProduct alike wellFormed withinSizes soundLayout made all any keep gather none from product same allBelow with fitTo entriesFrom sectionAt walk natural rowsOf entriesOf layoutBy layoutIn sound row lowest positions cmpRows increasing insert sorted sortedOnto extents stretchedAxes everyValue takeAll stretchRows yields stretchDeps stretched
 askToDataLayout a b = toDataLayoutCall a b
 
 unfoldable pub askBroadcastToShape : List ℤ → List ℤ → ℕ → ℕ → Verdict (List ℤ)
-unfolding part over put dense diagonal sparse onIndex held holds withinProduct alike wellFormed withinSizes soundLayout made encode all any keep gather none from product same allBelow with fitTo entriesFrom sectionAt walk natural rowsOf entriesOf layoutBy layoutIn sound row shapeIn goodShape lowest positions cmpRows increasing insert sorted sortedOnto extents sharedAxesFit stretchedAxes everyValue takeAll stretchRows stretchDeps stretched broadcastToShape broadcastToShapeCall
+unfolding part over put dense diagonal sparse onIndex held holds withinProduct alike wellFormed withinSizes soundLayout made encode all any keep gather none from product same allBelow with fitTo entriesFrom sectionAt walk natural rowsOf entriesOf layoutBy layoutIn sound row shapeIn goodShape lowest positions cmpRows increasing insert sorted sortedOnto extents sharedAxesFit stretchedAxes everyValue takeAll stretchRows yields stretchDeps stretched broadcastToShape broadcastToShapeCall
 askBroadcastToShape a b c d = inForm encode (broadcastToShapeCall a b c d)
 
 unfoldable pub askBroadcastToRank : List ℤ → ℤ → ℕ → ℕ → Verdict (List ℤ)
-unfolding part over put dense diagonal sparse onIndex held holds withinProduct alike wellFormed withinSizes soundLayout made encode all any keep gather none from product same allBelow with fitTo entriesFrom sectionAt walk natural rowsOf entriesOf layoutBy layoutIn sound row lowest positions cmpRows increasing insert sorted sortedOnto extents sharedAxesFit stretchedAxes everyValue takeAll stretchRows stretchDeps stretched broadcastToShape broadcastToRank broadcastToRankCall
+unfolding part over put dense diagonal sparse onIndex held holds withinProduct alike wellFormed withinSizes soundLayout made encode all any keep gather none from product same allBelow with fitTo entriesFrom sectionAt walk natural rowsOf entriesOf layoutBy layoutIn sound row lowest positions cmpRows increasing insert sorted sortedOnto extents sharedAxesFit stretchedAxes everyValue takeAll stretchRows yields stretchDeps stretched broadcastToShape broadcastToRank broadcastToRankCall
 askBroadcastToRank a b c d = inForm encode (broadcastToRankCall a b c d)
 
 unfoldable pub askUnion : List ℤ → List ℤ → ℕ → ℕ → Verdict (List ℤ)
@@ -128,7 +129,7 @@ unfolding upTo part over put minRankOf dense diagonal sparse onIndex held holds 
 askPermute a b c d = inForm encode (permuteCall a b c d)
 
 unfoldable pub askBroadcast : List ℤ → ℤ → ℕ → ℕ → ℕ → Verdict (List ℤ)
-unfolding upTo ruleOf combine stretchAll foldOnto foldBack endOfBroadcast broadcast broadcastCall part over put firstD lastAgree agree eqNonzeros toDense denseIfFull dense diagonal sparse onIndex held filterDeps barsFilter holds withDense intersectOfRows intersect withinProduct alike wellFormed withinSizes soundLayout made encode all any keep gather none from product largest same sameRows allBelow with fitTo expanded lowered entriesFrom sectionAt walk natural rowsOf entriesOf layoutBy layoutIn sound row behindRecord endToEnd listCount lowest positions removedRows removedDeps listsRow removeDenseAxes cmpRows increasing insert sorted sortedOnto extents commonShape shapesAgree broadcastShapes sharedAxesFit stretchedAxes everyValue takeAll stretchRows stretchDeps stretched broadcastToShape unionOfRows union
+unfolding upTo ruleOf combine stretchAll foldOnto foldBack endOfBroadcast broadcast broadcastCall part over put firstD lastAgree agree eqNonzeros toDense denseIfFull dense diagonal sparse onIndex held filterDeps barsFilter holds withDense intersectOfRows intersect withinProduct alike wellFormed withinSizes soundLayout made encode all any keep gather none from product largest same sameRows allBelow with fitTo expanded lowered belongs entriesFrom sectionAt walk natural rowsOf entriesOf layoutBy layoutIn sound ordered row behindRecord endToEnd listCount lowest positions removedRows removedDeps listsRow removeDenseAxes cmpRows increasing insert sorted sortedOnto extents commonShape shapesAgree broadcastShapes sharedAxesFit stretchedAxes everyValue takeAll stretchRows yields stretchDeps stretched broadcastToShape unionOfRows union
 askBroadcast a b c d e = inForm encode (broadcastCall a b c d e)
 
 unfoldable pub askConcatenate : List ℤ → ℤ → ℤ → ℕ → ℕ → Verdict (List ℤ)
@@ -150,3 +151,15 @@ askOrdered a = given (ordered a)
 unfoldable pub askRow : List ℤ → ℤ → Verdict (List ℤ)
 unfolding part over put dense diagonal sparse held holds withinProduct alike wellFormed withinSizes soundLayout made all any keep gather none from product same allBelow with entriesFrom sectionAt walk natural rowsOf entriesOf layoutBy sound row lowest positions cmpRows increasing insert sorted extents
 askRow a b = given (row a b)
+
+unfoldable pub askBroadcastToShapeWithMode : List ℤ → List ℤ → ℤ → ℕ → ℕ → Verdict (List ℤ)
+unfolding upTo part over put dense diagonal sparse onIndex held holds withinProduct alike wellFormed withinSizes soundLayout made encode all any keep gather none from product same allBelow with fitTo entriesFrom sectionAt walk natural rowsOf entriesOf layoutBy layoutIn sound row shapeIn goodShape lowest positions cmpRows increasing insert sorted sortedOnto extents sharedAxesFit stretchedAxes everyValue takeAll stretchRows yields stretchDeps stretched broadcastToShape modeOf broadcastToShapeWithModeCall
+askBroadcastToShapeWithMode a b c d e = inForm encode (broadcastToShapeWithModeCall a b c d e)
+
+unfoldable pub askBroadcastToRankWithMode : List ℤ → ℤ → ℤ → ℕ → ℕ → Verdict (List ℤ)
+unfolding upTo part over put dense diagonal sparse onIndex held holds withinProduct alike wellFormed withinSizes soundLayout made encode all any keep gather none from product same allBelow with fitTo entriesFrom sectionAt walk natural rowsOf entriesOf layoutBy layoutIn sound row lowest positions cmpRows increasing insert sorted sortedOnto extents sharedAxesFit stretchedAxes everyValue takeAll stretchRows yields stretchDeps stretched broadcastToShape broadcastToRank modeOf broadcastToRankWithModeCall
+askBroadcastToRankWithMode a b c d e = inForm encode (broadcastToRankWithModeCall a b c d e)
+
+unfoldable pub askBroadcastWithMode : List ℤ → ℤ → ℕ → ℤ → ℕ → ℕ → Verdict (List ℤ)
+unfolding upTo ruleOf combine stretchAll foldOnto foldBack endOfBroadcast broadcast broadcastWithModeCall part over put firstD lastAgree agree eqNonzeros toDense denseIfFull dense diagonal sparse onIndex held filterDeps barsFilter holds withDense intersectOfRows intersect withinProduct alike wellFormed withinSizes soundLayout made encode all any keep gather none from product largest same sameRows allBelow with fitTo expanded lowered belongs entriesFrom sectionAt walk natural rowsOf entriesOf layoutBy layoutIn sound ordered row behindRecord endToEnd listCount lowest positions removedRows removedDeps listsRow removeDenseAxes cmpRows increasing insert sorted sortedOnto extents commonShape shapesAgree broadcastShapes sharedAxesFit stretchedAxes everyValue takeAll stretchRows yields stretchDeps stretched broadcastToShape modeOf unionOfRows union
+askBroadcastWithMode a b c d e f = inForm encode (broadcastWithModeCall a b c d e f)
