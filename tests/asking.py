@@ -21,9 +21,9 @@ REFUSALS = {
 }
 # the operations that the port has: to be answered, and never with `unknown`
 IN_PORT = tuple(REFUSALS)
-# the later requests that are in force, and the operations that came with them
-LANDED = 'Q-1'
+# the operations that came with later requests; the reading is told which of these requests are in force
 LATER = (32, 33, 34)
+os.environ['LANDED'] = 'Q-1'
 
 
 def need_rust():
@@ -37,7 +37,7 @@ def need_rust():
 def lines(words, requests=None, cwd=ROOT):
     """The lines that a program writes, for requests if there are any."""
     text = None if requests is None else ''.join(request + '\n' for request in requests)
-    run = subprocess.run(words, input=text, stdout=subprocess.PIPE, text=True, cwd=cwd, env=dict(os.environ, LANDED=LANDED))
+    run = subprocess.run(words, input=text, stdout=subprocess.PIPE, text=True, cwd=cwd)
     if run.returncode:
         sys.exit('not run: %s ended with %d' % (' '.join(words), run.returncode))
     answers = run.stdout.splitlines()

@@ -163,8 +163,33 @@ def ranges_of_the_rust():
         yield line(28, dense([target]), dense([source], [(k, k) for k in states], inputs), start, end, *BUFFERS)
 
 
+def two_exchangers():
+    """The balance of two heat exchangers, refined to three and four segments; it depends on a state and on an input."""
+    return dense([1, 1], [(0, 0, 0)], [(0, 0, 0)]), [2, 3, 4]
+
+
+def modes_of_stretching():
+    """Both modes of stretching: dependencies outside the new extents, new extents 0, axes that stay 1, 128 and 129 combinations, and as many as a shape has; no mode, alone and with another fault."""
+    balance, segments = two_exchangers()
+    one, far, cut = dense([1, 1], [(0, 0, 7)]), dense([1, 1], [(0, 6, 7), (5, 0, 7), (5, 6, 8)], [(9, 9, 2147483647)]), []
+    shapes = [[2, 2, 2], [2, 1, 2], [2, 2, 1], [2, 1, 1], [1, 2], [0], [3, 2, 2, 2], [2, 0, 2], [2, 2, 0], [2, 65536, 0], [2, 256, 256], [2, 8, 16], [2, 3, 43]]
+    for mode in (0, 1):
+        yield line(32, balance, segments, mode, *BUFFERS)
+        yield from [line(32, s, shape, mode, *BUFFERS) for s in (one, far) for shape in shapes]
+        yield from [line(33, s, rank, mode, *BUFFERS) for s in (one, far, dense([2, 1], [(1, 3, 4)])) for rank in range(5)]
+        yield line(32, dense([1], [(k, 7) for k in range(128)]), [1, 128], mode, *BUFFERS)
+        yield line(32, sparse([1, 2, 1], [(0, 1, 0)], [(0, 1, 4, 3), (2, 0, 0, 3)]), [3, 2, 2, 3], mode, *BUFFERS)
+        for operator in (42, 43, 47):
+            yield from [line(34, balance + other, 2, operator, mode, *BUFFERS) for other in (dense([3, 4]), sparse([3, 4], [(1, 2)], [(1, 2, 5)]))]
+            yield from [line(34, far, 1, operator, mode, *BUFFERS), line(34, far + dense([2, 0]), 2, operator, mode, *BUFFERS)]
+    for mode in (2, -1, 256, 2147483647, -2147483648):
+        for s, shape, rank, sizes in ((one, [2, 2, 2], 3, BUFFERS), (one, [5], 5, BUFFERS), (one, [2, 2, 2], 3, [0, 0]), (cut, [-1], -1, BUFFERS), (one, [-1], -1, BUFFERS), (far, [1, 2], 0, BUFFERS)):
+            yield from [line(32, s, shape, mode, *sizes), line(33, s, rank, mode, *sizes), line(34, s, 1, 43, mode, *sizes)]
+        yield from [line(34, one, 17, 43, mode, *BUFFERS), line(34, [], 0, 43, mode, *BUFFERS)]
+
+
 def all_cases():
     """Every request made by hand, once."""
     positions = [request for _, request, _ in worked_by_hand()]
-    parts = (positions, limits_of_records(), limits_of_pairs(), limits_of_others(), two_faults(), tests_of_the_rust(), ranges_of_the_rust())
+    parts = (positions, limits_of_records(), limits_of_pairs(), limits_of_others(), two_faults(), tests_of_the_rust(), ranges_of_the_rust(), modes_of_stretching())
     return list(dict.fromkeys(request for part in parts for request in part))

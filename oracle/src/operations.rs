@@ -40,6 +40,19 @@ pub fn named(op: i32) -> Option<(&'static str, Operation)> {
         28 => ("SSnnnn", made::filter_deps_from),
         29 | 30 => ("S", |_| None),
         31 => ("Sn", read::row),
+        32 => ("SSnnn", |asked| in_mode_0(asked, 0, made::broadcast_to_shape)),
+        33 => ("Snnnn", |asked| in_mode_0(asked, 1, made::broadcast_to_rank)),
+        34 => ("Snnnnn", |asked| in_mode_0(asked, 2, lists::broadcast)),
         _ => return None,
     })
+}
+
+/// What an operation answers where the number that names the mode of stretching is 0: the Rust has no other mode. Numbers behind it are the
+/// sizes of buffers, which no operation reads.
+fn in_mode_0(asked: &Arguments, mode: usize, operation: Operation) -> Option<String> {
+    if asked.numbers[mode] == 0 {
+        operation(asked)
+    } else {
+        None
+    }
 }

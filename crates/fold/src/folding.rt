@@ -161,7 +161,15 @@ pub fn fold_all(
     bring_left(mode, layouts, places[k], shape, window);
     while 0 < k {
         k -= 1;
-        if let Step::Refused(why) = fold_onto(mode, first, rule, layouts, places[k], shape, window) {
+        if let Step::Refused(why) = fold_onto(
+            mode,
+            first,
+            rule,
+            layouts,
+            places[k],
+            shape,
+            window,
+        ) {
             return Step::Refused(why);
         }
         first = false;

@@ -40,7 +40,14 @@ fn stretch_and_fold(
     requires { ⌜ windowSize ≤ length (now window) ⌝ }
     ensures { λ r. ⌜ Says (broadcastTo mode (extentsOf shape) (layoutsAt n places (now (layouts .entry))) rule) left (now (window .exit)) r ⌝ }
 {
-    if let Step::Refused(why) = judge_all(mode, layouts, places, n, shape, &mut window[LEFT..RIGHT]) {
+    if let Step::Refused(why) = judge_all(
+        mode,
+        layouts,
+        places,
+        n,
+        shape,
+        &mut window[LEFT..RIGHT],
+    ) {
         return Step::Refused(why);
     }
     if let Step::Refused(why) = fold_all(mode, layouts, places, n, shape, rule, window) {

@@ -5,6 +5,7 @@ pub mod SoundRecords
 pub mod Results
 pub mod Shapes
 pub mod RangeEnds
+pub mod Modes
 pub mod LentSizes
 pub mod Endings
 pub mod RecordCalls

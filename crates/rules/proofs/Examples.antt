@@ -15,3 +15,4 @@ mod Permute
 mod Broadcast
 mod Concatenate
 mod FilterDepsFrom
+mod Modes

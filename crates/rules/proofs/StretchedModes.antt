@@ -324,8 +324,16 @@ module _ {l : Layout} (s : Sound l) (shape : List ℕ) (few-axes : length shape 
         by true false e q f = rw (e, ← same-few (l .shape) shape states-fit one low-states, e)
         by true true e false f = rw (e, f, ← same-few (l .shape) shape states-fit one low-states, e, ← same-few (l .shape) shape inputs-fit one low-inputs, f)
         by true true e true f =
-            rw (e, f, ← same-few (l .shape) shape states-fit one low-states, e, ← same-few (l .shape) shape inputs-fit one low-inputs, f,
-                same-lists (l .shape) shape states-fit one low-states e, same-lists (l .shape) shape inputs-fit one low-inputs f)
+            rw (
+              e,
+              f,
+              ← same-few (l .shape) shape states-fit one low-states,
+              e,
+              ← same-few (l .shape) shape inputs-fit one low-inputs,
+              f,
+              same-lists (l .shape) shape states-fit one low-states e,
+              same-lists (l .shape) shape inputs-fit one low-inputs f,
+            )
 
     pub modes-same : broadcastToShape Alone l shape ≡ broadcastToShape Together l shape
     modes-same = by (ended l shape)

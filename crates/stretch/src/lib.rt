@@ -122,13 +122,7 @@ pub fn stretch_into(
 }
 
 // The record stretched in a mode, or cut, to a rank goes into the part.
-pub fn stretch_to_rank(
-    mode: Mode,
-    from: &[i32],
-    head: Head,
-    rank: usize,
-    part: &mut [i32],
-) -> Step
+pub fn stretch_to_rank(mode: Mode, from: &[i32], head: Head, rank: usize, part: &mut [i32]) -> Step
     requires { ⌜ SoundRecord head (now from) × (rank ≤ 4) ⌝ }
     requires { ⌜ partSize ≤ length (now part) ⌝ }
     ensures { λ r. ⌜ Says (broadcastToRank mode (layoutIn (now (from .entry))) rank) 0 (now (part .exit)) r ⌝ }
