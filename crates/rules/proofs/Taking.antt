@@ -25,7 +25,7 @@ use Rattle.rules.proofs.Replaced.{with-length, with-same, with-other}
 -- ---- axes
 
 -- an axis is one of them, or it is not
-axis-or-not : (k : ℕ) (axes : List ℕ) → List·Memᴰ k axes ⊎ (List·Memᴰ k axes → ⊥)
+pub axis-or-not : (k : ℕ) (axes : List ℕ) → List·Memᴰ k axes ⊎ (List·Memᴰ k axes → ⊥)
 axis-or-not k [] = inr (λ m. List·Memᴰ·not-nil m)
 axis-or-not k (a ∷ axes) = go (compareNumbers k a) (axis-or-not k axes)
   where
