@@ -6,6 +6,7 @@ pub mod Values
 pub mod Yields
 pub mod Depending
 pub mod Plus
+pub mod Combinations
 pub mod Moves
 pub mod ListedRows
 pub mod Bending

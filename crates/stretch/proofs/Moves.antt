@@ -1,7 +1,7 @@
 -- Rows plus every index: `put_moved` and `stretch_rows`. Assumes nothing.
 use mathlib.Core.Path.{_≡_, refl}
 use mathlib.Core.Bool.{Bool, true, false}
-use mathlib.Core.List.{List, [], _∷_}
+use mathlib.Core.List.{List, []}
 use Prim.Native.Nat.{ℕ, _+_, _*_, _^_, _<_, _≤_}
 use native.Mathlib.Omega.{arith}
 use lib.IntN.{ℤ, pos}
@@ -20,31 +20,28 @@ use Rattle.parts.specs.Parts.{rowsFrom}
 use Rattle.stretch.specs.Spread.{plus}
 use Rattle.stretch.specs.Tables.{inTurn, MoveAsked, MovesAsked, RowsAsked, movedRows}
 use Rattle.stretch.proofs.InTurn.{taken-turn, taken-halt}
-use Rattle.stretch.proofs.Plus.{plus-at, index-length, index-small}
+use Rattle.stretch.proofs.StretchedAxes.{within-small}
+use Rattle.stretch.proofs.Plus.{plus-at, movedBy, index-length, moved-under}
 use Rattle.stretch.proofs.Depending.{rows-turn}
 
 -- ---- one row: `put_moved`
 
--- a row plus the index of a number
-abbrev pub movedBy : List ℕ → List ℕ → ℕ → List (List ℕ)
-movedBy r extents n = plus r (unravel n extents) ∷ []
-
 -- the row plus the first indices is in the table
-pub record Moving (at w : ℕ) (src extents : List ℤ) (size number : ℕ) (s t : List ℤ) : Type 0 where
-  pub asked : MovesAsked at w src extents size s
+pub record Moving (at w : ℕ) (src extents : List ℤ) (size to number : ℕ) (s t : List ℤ) : Type 0 where
+  pub asked : MovesAsked at w src extents size to s
   pub upto : number ≤ size
-  pub taken : Taken rowsFrom w (inTurn (movedBy (rowAt at w src) (rowAt 0 w extents)) number) s t true
+  pub taken : Taken to w (inTurn (movedBy (rowAt at w src) (rowAt 0 w extents)) number) s t true
 
-module _ {at w : ℕ} {src extents : List ℤ} {size : ℕ} {s : List ℤ} where
-  pub move-start : MovesAsked at w src extents size s → Moving at w src extents size 0 s s
+module _ {at w : ℕ} {src extents : List ℤ} {size to : ℕ} {s : List ℤ} where
+  pub move-start : MovesAsked at w src extents size to s → Moving at w src extents size to 0 s s
   unfolding gather from
   move-start a = record { asked = a; upto = omega arith; taken = taken-none (a .target) }
 
-  module _ {number : ℕ} {t : List ℤ} (g : Moving at w src extents size number s t) where
-    pub move-done : size ≤ number → Taken rowsFrom w (inTurn (movedBy (rowAt at w src) (rowAt 0 w extents)) size) s t true
+  module _ {number : ℕ} {t : List ℤ} (g : Moving at w src extents size to number s t) where
+    pub move-done : size ≤ number → Taken to w (inTurn (movedBy (rowAt at w src) (rowAt 0 w extents)) size) s t true
     move-done h = let u = g .upto in let e : number ≡ size = omega arith in rw e at (g .taken)
 
-    pub can-move : Ready rowsFrom w t
+    pub can-move : Ready to w t
     can-move = g .taken .ready refl
 
     module _ (h : number < size) where
@@ -52,7 +49,7 @@ module _ {at w : ℕ} {src extents : List ℤ} {size : ℕ} {s : List ℤ} where
       ask-move = record {
         room = g .asked .room;
         narrow = g .asked .narrow;
-        row-small = g .asked .row-small;
+        sums-most = g .asked .sums-most;
         extents-are = g .asked .extents-are;
         inside = rw (← g .asked .size-is) h;
       }
@@ -71,7 +68,7 @@ module _ {at w : ℕ} {src extents : List ℤ} {size : ℕ} {s : List ℤ} where
             by (under l) =
                 let p = row-length at w src (g .asked .room) in
                 let q = index-length ask-move in
-                rw (is, plus-at (rowAt at w src) (unravel number (rowAt 0 w extents)) k (omega arith) (omega arith)) (omega (arith, g .asked .row-small k l, index-small ask-move k l))
+                rw (is, plus-at (rowAt at w src) (unravel number (rowAt 0 w extents)) k (omega arith) (omega arith)) (moved-under ask-move k l)
             by (even l) = past (omega arith)
             by (above l) = past (omega arith)
 
@@ -79,14 +76,14 @@ module _ {at w : ℕ} {src extents : List ℤ} {size : ℕ} {s : List ℤ} where
         pub moved-row : HasRow 0 w row
         moved-row = record { room = omega (arith, g .asked .narrow); low = moved-low }
 
-        module _ {u : List ℤ} {r : Bool} (p : Put rowsFrom w (rowAt 0 w row) t u r) where
-          one-moved : Taken rowsFrom w (movedBy (rowAt at w src) (rowAt 0 w extents) number) t u r
+        module _ {u : List ℤ} {r : Bool} (p : Put to w (rowAt 0 w row) t u r) where
+          one-moved : Taken to w (movedBy (rowAt at w src) (rowAt 0 w extents) number) t u r
           one-moved = rw (← is) (taken-one can-move moved-low p)
 
-          pub move-turn : r ≡ true → Moving at w src extents size (number + 1) s u
+          pub move-turn : r ≡ true → Moving at w src extents size to (number + 1) s u
           move-turn e = record { asked = g .asked; upto = omega arith; taken = taken-turn [] (movedBy (rowAt at w src) (rowAt 0 w extents)) (g .taken) one-moved e }
 
-          pub move-stop : r ≡ false → Taken rowsFrom w (inTurn (movedBy (rowAt at w src) (rowAt 0 w extents)) size) s u false
+          pub move-stop : r ≡ false → Taken to w (inTurn (movedBy (rowAt at w src) (rowAt 0 w extents)) size) s u false
           move-stop e = taken-halt [] (movedBy (rowAt at w src) (rowAt 0 w extents)) (g .taken) one-moved size h e
 
 pub ruleset moves = (move-start, can-move, ask-move, moved-row, move-turn, move-stop, move-done)
@@ -135,11 +132,11 @@ module _ {first count w : ℕ} {src extents : List ℤ} {size : ℕ} {s : List �
       pub row-ended : first + i * w + w ≤ length src
       row-ended = omega (arith, row-ends w h, g .room)
 
-      pub ask-moves : MovesAsked (first + i * w) w src extents size t
+      pub ask-moves : MovesAsked (first + i * w) w src extents size rowsFrom t
       ask-moves = record {
         room = row-ended;
-        narrow = g .narrow;
-        row-small = g .rows-small i h;
+        narrow = omega (arith, g .narrow);
+        sums-most = λ k l. omega (arith, g .rows-small i h k l, within-small (rowAt 0 w extents) (g .extents-are .within) k);
         extents-are = g .extents-are;
         size-is = g .size-is;
         target = g .taken .ready refl;

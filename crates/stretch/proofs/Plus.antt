@@ -2,21 +2,17 @@
 use mathlib.Core.Path.{_≡_, refl, sym, ap, _∙_}
 use mathlib.Core.List.{List, [], _∷_, map}
 use Prim.Native.Nat.{ℕ, zero, suc, _+_, _^_, _<_, _≤_}
-use native.Mathlib.Nat.{zero-add, le-trans}
+use native.Mathlib.Nat.{zero-add}
 use native.Mathlib.Omega.{arith}
-use borrow.Author.Tests.{leb-true}
 use lib.IntN.{ℤ, pos}
 use lib.ListN.{length, getD, set, length-set, length-map}
 use lib.Seq.{getD-set-same, getD-set-other, ext-getD}
-use Rattle.rules.specs.Limits.{productLimit}
 use Rattle.rules.specs.Lists.{product}
 use Rattle.rules.specs.Buffers.{put}
-use Rattle.rules.specs.Layout.{withinProduct, nonzeroProduct}
 use Rattle.rules.specs.Positions.{unravel}
 use Rattle.rules.specs.Removal.{positions}
 use Rattle.rules.proofs.Buffers.{part-put-all}
 use Rattle.rules.proofs.Order.{ComparedNumbers, under, even, above, compareNumbers}
-use Rattle.rules.proofs.Extents.{extent-nonzero}
 use Rattle.rules.proofs.Places.{in-at}
 use Rattle.rules.proofs.Indices.{positions-only, positions-length}
 use Rattle.rules.proofs.Low.{below-at}
@@ -45,6 +41,10 @@ plus-at [] q k h l = absurd (omega arith)
 plus-at (x ∷ p) [] k h l = absurd (omega arith)
 plus-at (x ∷ p) (y ∷ q) zero h l = refl
 plus-at (x ∷ p) (y ∷ q) (suc k) h l = plus-at p q k (omega arith) (omega arith)
+
+-- a row plus the index of a number
+abbrev pub movedBy : List ℕ → List ℕ → ℕ → List (List ℕ)
+movedBy r extents n = plus r (unravel n extents) ∷ []
 
 -- ---- one number after the other: `added`
 
@@ -76,10 +76,8 @@ module _ {at w : ℕ} {from index : List ℤ} where
     module _ (h : k < w) {x y : ℕ} (e : x ≡ getD (view from) (at + k) 0) (f : y ≡ getD (view row) k 0) where
       pub sum-small : x + y < 2 ^ 31
       sum-small =
-          let a : x ≤ productLimit = rw (e, ← row-number at w k from h) (g .asked .row-small k h) in
           let i : getD (rowAt 0 w index) k 0 ≡ getD (view index) k 0 = row-number 0 w k index h ∙ ap (λ (n : ℕ). getD (view index) n 0) (zero-add k) in
-          let b : y ≤ productLimit = rw (f, g .rest k (omega arith), ← i) (g .asked .index-small k h) in
-          omega arith
+          rw (e, f, g .rest k (omega arith), ← row-number at w k from h, ← i) (g .asked .sums-low k h)
 
       pub add-turn : {next : List ℤ} → next ≡ set row k (pos (x + y)) → Adding at w from index (k + 1) next
       add-turn {next} is = record {
@@ -122,12 +120,9 @@ module _ {at w : ℕ} {from extents : List ℤ} {number : ℕ} (a : MoveAsked at
   pub index-length : length (unravel number shape) ≡ w
   index-length = unravel-length number shape ∙ row-length 0 w extents (a .extents-are .room)
 
-  -- each of them is small
-  pub index-small : (k : ℕ) → k < w → getD (unravel number shape) k 0 ≤ productLimit
-  unfolding withinProduct
-  index-small k h =
-      let most = le-trans (extent-nonzero shape k 0 (omega arith)) (leb-true (nonzeroProduct shape) productLimit (a .extents-are .within)) in
-      omega (arith, unravel-under number shape (a .inside) k (rw (row-length 0 w extents (a .extents-are .room)) h))
+  -- each of them plus the number of the row is below 2 ^ 31
+  pub moved-under : (k : ℕ) → k < w → getD (rowAt at w from) k 0 + getD (unravel number shape) k 0 < 2 ^ 31
+  moved-under k h = omega (arith, a .sums-most k h, unravel-under number shape (a .inside) k (rw (row-length 0 w extents (a .extents-are .room)) h))
 
   module _ (row : List ℤ) {index : List ℤ} (l : length row ≡ 5) (is : index ≡ put 0 (map pos (unravel number shape)) row) (long : length index ≡ 5) where
     index-is : rowAt 0 w index ≡ unravel number shape
@@ -136,7 +131,7 @@ module _ {at w : ℕ} {from extents : List ℤ} {number : ℕ} (a : MoveAsked at
         sym (view-part 0 w index) ∙ ap view (rw is (rw size at (part-put-all 0 (map pos (unravel number shape)) row (omega arith)))) ∙ view-pos (unravel number shape)
 
     pub ask-add : AddAsked at w from index
-    ask-add = record { room = a .room; narrow = a .narrow; long = long; row-small = a .row-small; index-small = rw index-is index-small }
+    ask-add = record { room = a .room; narrow = a .narrow; long = long; sums-low = rw index-is moved-under }
 
     -- the sum is the row plus the index of the number
     pub is-moved : (r : List ℤ) → rowAt 0 w r ≡ plus (rowAt at w from) (rowAt 0 w index) → rowAt 0 w r ≡ plus (rowAt at w from) (unravel number shape)

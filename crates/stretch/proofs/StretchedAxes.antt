@@ -10,8 +10,8 @@ use native.Mathlib.Omega.{arith}
 use borrow.Author.Tests.{eq-eqb, ne-eqb, le-leb, lt-leb, leb-true, not-true, not-false}
 use lib.Dec.{eqb}
 use lib.IntN.{ℤ, pos}
-use lib.ListN.{length, getD, drop, set, length-set, drop-of-length-le}
-use lib.Seq.{getD-drop, getD-take, drop-cons, take-suc-set}
+use lib.ListN.{length, getD, drop, set, replicate, length-set, getD-replicate, drop-of-length-le}
+use lib.Seq.{getD-drop, getD-take, getD-set-other, drop-cons, take-suc-set}
 use Rattle.rules.specs.Limits.{productLimit}
 use Rattle.rules.specs.Lists.{all, from}
 use Rattle.rules.specs.Buffers.{part}
@@ -23,7 +23,7 @@ use Rattle.cells.proofs.View.{view-length, view-set}
 use Rattle.tables.specs.Rows.{rowAt}
 use Rattle.tables.proofs.Rows.{row-length, row-number}
 use Rattle.moving.specs.Fitting.{Smaller}
-use Rattle.stretch.specs.Spread.{Shapes, extentsIn, valuesOn, spreadOver}
+use Rattle.stretch.specs.Spread.{Shapes, extentsIn, valuesOn, spreadOver, SpreadIs}
 use Rattle.stretch.proofs.InTurn.{from-more}
 
 -- ---- one extent: `axis_fits`
@@ -163,11 +163,14 @@ pub ruleset cutting = (cut-start, cut-turn, cut-stop, cut-done)
 
 -- ---- how many values each axis takes: `spread_extents`
 
--- an extent is small
-pub extent-small : {old : ℕ} {s : List ℤ} {at rank : ℕ} {t : List ℤ} → Shapes old s at rank t → (axis : ℕ) → getD (rowAt at rank t) axis 0 ≤ productLimit
+-- of extents within the limit each is small
+pub within-small : (shape : List ℕ) → withinProduct shape ≡ true → (axis : ℕ) → getD shape axis 0 ≤ productLimit
 unfolding withinProduct
-extent-small {at = at} {rank} {t} a axis =
-    le-trans (extent-nonzero (rowAt at rank t) axis 0 (omega arith)) (leb-true (nonzeroProduct (rowAt at rank t)) productLimit (a .within))
+within-small shape e axis = le-trans (extent-nonzero shape axis 0 (omega arith)) (leb-true (nonzeroProduct shape) productLimit e)
+
+-- so is each of the new shape
+pub extent-small : {old : ℕ} {s : List ℤ} {at rank : ℕ} {t : List ℤ} → Shapes old s at rank t → (axis : ℕ) → getD (rowAt at rank t) axis 0 ≤ productLimit
+extent-small {at = at} {rank} {t} a axis = within-small (rowAt at rank t) (a .within) axis
 
 values-small : (old new : List ℕ) (axis : ℕ) → getD new axis 0 ≤ productLimit → valuesOn old new axis ≤ productLimit
 values-small old new axis h = by (isStretched old new axis) refl
@@ -176,18 +179,24 @@ values-small old new axis h = by (isStretched old new axis) refl
     by true e = rw e h
     by false e = rw e (omega arith)
 
--- the first k axes have their count of values
+-- five ones
+ones-at : (k : ℕ) → k < 5 → getD (view (replicate 5 (pos 1))) k 0 ≡ 1
+unfolding view
+ones-at k h = getD-replicate 5 k 1 0 h
+
+-- the first k axes have their count of values, and 1 stands behind them
 pub record Spreading (old : ℕ) (s : List ℤ) (at rank : ℕ) (t : List ℤ) (w k : ℕ) (out : List ℤ) : Type 0 where
   pub shapes : Shapes old s at rank t
   pub within : w ≤ rank
   pub upto : k ≤ w
-  pub long : length out ≡ 4
+  pub long : length out ≡ 5
   pub is : rowAt 0 k out ≡ spreadOver (extentsIn old s) (rowAt at rank t) k
+  pub ones : (j : ℕ) → k ≤ j → j < 5 → getD (view out) j 0 ≡ 1
 
 module _ {old : ℕ} {s : List ℤ} {at rank : ℕ} {t : List ℤ} {w : ℕ} where
-  pub spread-start : {out : List ℤ} → Shapes old s at rank t → w ≤ rank → length out ≡ 4 → Spreading old s at rank t w 0 out
+  pub spread-start : Shapes old s at rank t → w ≤ rank → Spreading old s at rank t w 0 (replicate 5 (pos 1))
   unfolding part from
-  spread-start a h l = record { shapes = a; within = h; upto = omega arith; long = l; is = refl }
+  spread-start a h = record { shapes = a; within = h; upto = omega arith; long = refl; is = refl; ones = λ j l i. ones-at j i }
 
   module _ {k : ℕ} {out : List ℤ} (g : Spreading old s at rank t w k out) where
     module _ (h : k < w) {v : ℕ} (e : v ≡ valuesOn (extentsIn old s) (drop at (view t)) k) where
@@ -209,9 +218,13 @@ module _ {old : ℕ} {s : List ℤ} {at rank : ℕ} {t : List ℤ} {w : ℕ} whe
             let m = g .shapes .new-few in
             let inside : k < length (view out) = rw view-length (omega (arith, g .long)) in
             rw (f, view-set, from-more 0 k, map-append, add-one k, take-suc-set (view out) k v inside, g .is, zero-add k, ← value-is);
+        ones = λ j l i. rw (f, view-set) (getD-set-other (view out) k j v 0 (λ d. omega arith) ∙ g .ones j (omega arith) i);
       }
 
-    pub spread-done : w ≤ k → rowAt 0 w out ≡ spreadOver (extentsIn old s) (rowAt at rank t) w
-    spread-done h = let u = g .upto in let e : k ≡ w = omega arith in rw e at (g .is)
+    pub spread-done : w ≤ k → SpreadIs (extentsIn old s) (rowAt at rank t) w out
+    spread-done h =
+        let u = g .upto in
+        let e : k ≡ w = omega arith in
+        record { values = rw e at (g .is); behind = g .ones w (omega arith) (omega (arith, g .within, g .shapes .new-few)) }
 
 pub ruleset spreading = (spread-start, value-small, spread-turn, spread-done)

@@ -1,16 +1,16 @@
--- `put_moved`: at each turn the row plus the first indices is among the rows.
+-- `put_moved`: at each turn the row plus the first indices is in the table.
 use Prim.Native.Nat.{_-_}
 use Rattle.stretch.proofs.Moves.{moves, Moving, ask-move, can-move, moved-row, move-turn, move-stop, move-done}
 use borrow.Author.Tests.{not-true, not-false}
 use borrow.Author.Needs.{needs}
-use Rattle.stretch.proofs.rows.put_moved.Statement.{statement}
-use Rattle.stretch.proofs.rows.put_moved.Tie as tie
+use Rattle.stretch.proofs.every.put_moved.Statement.{statement}
+use Rattle.stretch.proofs.every.put_moved.Tie as tie
 
 abbrev Inv-loop : tie.InvT-loop
-Inv-loop from at w extents size part₀ number₀ part number = Moving at w from extents size number part₀ part
+Inv-loop from at w extents size part₀ to number₀ part number = Moving at w from extents size to number part₀ part
 
 abbrev μ-loop : tie.MeasureT-loop
-μ-loop from at w extents size part₀ number₀ part number = size - number
+μ-loop from at w extents size part₀ to number₀ part number = size - number
 
 loop-holds : tie.Need-loop-holds Inv-loop μ-loop
 loop-holds c = search (needs, moves)

@@ -1,8 +1,8 @@
 -- `moved_row`: the index of the number, and the sum.
 use Rattle.stretch.proofs.Plus.{ask-index, ask-add, is-moved}
 use borrow.Author.Needs.{needs}
-use Rattle.stretch.proofs.rows.moved_row.Statement.{statement}
-use Rattle.stretch.proofs.rows.moved_row.Tie as tie
+use Rattle.stretch.proofs.every.moved_row.Statement.{statement}
+use Rattle.stretch.proofs.every.moved_row.Tie as tie
 
 slice-aggregate-unravel-into : tie.Need-slice-aggregate-unravel-into
 slice-aggregate-unravel-into c = search needs

@@ -3,8 +3,8 @@ use Prim.Native.Nat.{_-_}
 use Rattle.stretch.proofs.Plus.{adding, Adding, sum-small}
 use native.Mathlib.Omega.{arith}
 use borrow.Author.Needs.{needs}
-use Rattle.stretch.proofs.rows.added.Statement.{statement}
-use Rattle.stretch.proofs.rows.added.Tie as tie
+use Rattle.stretch.proofs.every.added.Statement.{statement}
+use Rattle.stretch.proofs.every.added.Tie as tie
 
 abbrev Inv-loop : tie.InvT-loop
 Inv-loop from at w row₀ k₀ row k = Adding at w from row₀ k row
