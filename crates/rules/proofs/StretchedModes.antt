@@ -1,19 +1,19 @@
 -- The two modes of stretching: what mode 1 lists, what both share, and where they give the same. Assumes nothing.
 use mathlib.Core.Path.{_≡_, refl, sym, ap, _∙_, subst}
-use mathlib.Core.Bool.{Bool, true, false, not, _&&_, _||_}
-use mathlib.Core.List.{List, [], _∷_, _++_, append-nil, List·Memᴰ, List·Memᴰ·head, List·Memᴰ·tail, List·Memᴰ·not-nil}
+use mathlib.Core.Bool.{Bool, true, false, _&&_}
+use mathlib.Core.List.{List, [], _∷_, _++_, List·Memᴰ, List·Memᴰ·head, List·Memᴰ·tail, List·Memᴰ·not-nil}
 use Prim.Native.Nat.{ℕ, suc, _+_, _-_, _≤_, _<_}
 use native.Mathlib.Omega.{arith}
 use borrow.Author.Tests.{le-leb, eqb-true, ltb-true, ltb-false}
-use lib.Dec.{ltb}
+use lib.Dec.{eqb, ltb}
 use lib.IntN.{ℤ, pos}
 use lib.ListN.{length, getD, take, drop, length-append, length-drop, List·getD-append, List·getD-eq-default}
 use lib.Seq.{getD-drop}
 use lib.Signed.{nonNeg}
 use Rattle.rules.specs.declared.Mode.{Mode}
 use Rattle.rules.specs.declared.Mode.the-variants.{Alone, Together}
-use Rattle.rules.specs.Limits.{rankLimit, productLimit}
-use Rattle.rules.specs.Lists.{if, implies, gather, with, fitTo}
+use Rattle.rules.specs.Limits.{rankLimit, productLimit, entryLimit}
+use Rattle.rules.specs.Lists.{if, all, implies, gather, with, fitTo}
 use Rattle.rules.specs.RowsInOrder.{sorted, In, Each}
 use Rattle.rules.specs.Refusals.{given, refused, lowest}
 use Rattle.rules.specs.Layout.{Layout, rank, width, isDiagonal, nonzeroProduct, alike, few, withDeps}
@@ -21,21 +21,22 @@ use Rattle.rules.specs.Soundness.{WellFormed, Sound}
 use Rattle.rules.specs.Record.{natural, goodShape}
 use Rattle.rules.specs.Arguments.{upTo}
 use Rattle.rules.specs.Dependencies.{indexOf, onIndex}
-use Rattle.rules.specs.Stretching.{sharedAxesFit, isStretched, stretchedAxes, everyValue, takeAll, yields, stretchRows, stretchDeps, stretched, broadcastToShape, broadcastToRank, broadcastToShapeCall, broadcastToRankCall, modeOf, broadcastToShapeWithModeCall, broadcastToRankWithModeCall}
+use Rattle.rules.specs.Stretching.{sharedAxesFit, isStretched, stretchedAxes, takeAll, yields, stretchRows, stretchDeps, stretched, broadcastToShape, broadcastToRank, broadcastToShapeCall, broadcastToRankCall, modeOf, broadcastToShapeWithModeCall, broadcastToRankWithModeCall}
 use Rattle.rules.specs.Broadcast.{broadcastCall, broadcastWithModeCall}
 use Rattle.rules.proofs.Order.{ComparedNumbers, under, even, above, compareNumbers}
 use Rattle.rules.proofs.Same.{true-not-false}
-use Rattle.rules.proofs.Sets.{Subset, in-same, each-cons, each-nil}
+use Rattle.rules.proofs.Sets.{Subset, each-cons, each-nil}
 use Rattle.rules.proofs.Sorting.{sorted-has, sorted-same}
 use Rattle.rules.proofs.Few.{few-each, few-sorted, sorted-few}
 use Rattle.rules.proofs.Made.{fewOr}
 use Rattle.rules.proofs.Replaced.{with-length, with-same, with-other, fit-length}
 use Rattle.rules.proofs.Gathering.{gather-only, gather-has, gather-each}
-use Rattle.rules.proofs.Taking.{Taken, every-only, take-only, take-has}
+use Rattle.rules.proofs.Taking.{Taken, take-only, take-has}
 use Rattle.rules.proofs.Axes.{stretched-below, stretched-has}
 use Rattle.rules.proofs.Yielding.{yields-each}
 use Rattle.rules.proofs.Stretching.{Stretches}
 use Rattle.rules.proofs.StretchedAnswers.{stretch-disagrees, stretch-bars, stretch-breaks, stretch-given}
+use Rattle.rules.proofs.ToRank.{rank-deps, rank-disagrees, rank-bars, rank-given}
 use Rattle.rules.proofs.Folding.{given-is}
 use Rattle.rules.proofs.Given.{stretch-sound, rank-made}
 
@@ -343,6 +344,28 @@ module _ {l : Layout} (s : Sound l) (shape : List ℕ) (few-axes : length shape 
         by (bars f h) = stretch-bars Alone l shape f h ∙ sym (stretch-bars Together l shape f h)
         by (breaks g k a) = stretch-breaks Alone g (s .form) k a ∙ sym (stretch-breaks Together g (s .form) k a)
         by (fits g a) = stretch-given Alone g s few-axes small a ∙ same-counts ∙ sym (stretch-given Together g s few-axes small a)
+
+-- ---- to a rank both modes answer the same: an axis that is added takes the value 0 alone
+
+module _ {l : Layout} (s : Sound l) (r : ℕ) (few-axes : r ≤ rankLimit) where
+  same-deps : (m n : Mode) {deps : List (List ℕ)} → Each (λ d. length d ≡ suc (rank l)) deps → length deps ≤ entryLimit →
+      stretchDeps m (l .shape) (fitTo r 1 (l .shape)) deps ≡ stretchDeps n (l .shape) (fitTo r 1 (l .shape)) deps
+  same-deps m n f h = rank-deps (l .shape) r m f h ∙ sym (rank-deps (l .shape) r n f h)
+
+  same-stretched : (m n : Mode) → stretched m l (fitTo r 1 (l .shape)) ≡ stretched n l (fitTo r 1 (l .shape))
+  unfolding stretched
+  same-stretched m n =
+      rw (same-deps m n (s .form .states-fit .lengths) (s .sizes .states-few), same-deps m n (s .form .inputs-fit .lengths) (s .sizes .inputs-few))
+
+  pub rank-modes-same : (m n : Mode) → broadcastToRank m l r ≡ broadcastToRank n l r
+  rank-modes-same m n = by (all (eqb 1) (drop r (l .shape))) refl (ltb (l .dense + r) (rank l)) refl
+    where
+      by : (c : Bool) → all (eqb 1) (drop r (l .shape)) ≡ c → (b : Bool) → ltb (l .dense + r) (rank l) ≡ b → broadcastToRank m l r ≡ broadcastToRank n l r
+      by false e b g = rank-disagrees m l r e ∙ sym (rank-disagrees n l r e)
+      by true e true g = let h = ltb-true (l .dense + r) (rank l) g in rank-bars m l r e h ∙ sym (rank-bars n l r e h)
+      by true e false g =
+          let h = ltb-false (l .dense + r) (rank l) g in
+          rank-given m l r e s few-axes h ∙ ap given (same-stretched m n) ∙ sym (rank-given n l r e s few-axes h)
 
 -- ---- the calls of the Rust's names are those with mode 0
 

@@ -10,7 +10,7 @@ use Rattle.rules.specs.RowsInOrder.{In, Each}
 use Rattle.rules.specs.Stretching.{everyValue, yields}
 use Rattle.rules.proofs.Sets.{each-cons, each-nil}
 use Rattle.rules.proofs.Gathering.{gather-each}
-use Rattle.rules.proofs.Taking.{Taken, every-only, take-each, take-has}
+use Rattle.rules.proofs.Taking.{every-only, take-each, take-has}
 
 module _ (shape axes : List ℕ) where
   -- what holds of a dependency, and stays with any value on a stretched axis, holds of all that it yields
