@@ -8,7 +8,8 @@ use borrow.Author.Tests.{not-true, not-false}
 use lib.IntN.{ℤ}
 use lib.ListN.{length}
 use Rattle.rules.specs.declared.Refusal.{Refusal}
-use Rattle.rules.specs.declared.Refusal.the-variants.{Unsound}
+use Rattle.rules.specs.declared.Refusal.the-variants.{Unsound, WrongArgument}
+use Rattle.rules.specs.declared.Mode.{Mode}
 use Rattle.rules.specs.declared.Rule.{Rule}
 use Rattle.rules.specs.declared.Step.{Step}
 use Rattle.rules.specs.declared.Written.{Written}
@@ -16,11 +17,12 @@ use Rattle.rules.specs.declared.Written.the-variants.{Refused as NotWritten}
 use Rattle.rules.specs.Limits.{workSize}
 use Rattle.rules.specs.Lists.{all, any}
 use Rattle.rules.specs.Buffers.{over, zeros}
-use Rattle.rules.specs.Refusals.{Verdict, inForm, _when_, _then_, lowest}
+use Rattle.rules.specs.Refusals.{Verdict, inForm, Reason, _when_, _then_, lowest}
 use Rattle.rules.specs.Layout.{Layout, encode}
 use Rattle.rules.specs.Record.{endToEnd, behindRecord, listCount, recordsIn, layoutIn, sound}
-use Rattle.rules.specs.Arguments.{overCount, overRecord}
+use Rattle.rules.specs.Arguments.{overCount, overRecord, goodMode}
 use Rattle.rules.specs.Endings.{Ends}
+use Rattle.rules.specs.Stretching.{modeOf}
 use Rattle.rules.specs.Broadcast.{ruleOf, broadcast}
 use Rattle.rules.proofs.BroadcastRefused.{broadcast-refusing}
 use Rattle.parts.specs.Parts.{windowSize, left}
@@ -32,9 +34,10 @@ use Rattle.lists.specs.Records.{JudgedRecord, layoutsAt}
 use Rattle.judging.specs.declared.Sizes.{Sizes}
 use Rattle.judging.specs.declared.Sizes.the-variants.{Kept, Refused}
 use Rattle.judging.specs.LentSizes.{sizeReasons, SizesKept, SizesAre}
+use Rattle.judging.specs.Judging.{ModeGood}
+use Rattle.judging.proofs.Judged.{argument-wrong, argument-right, not-holds, not-fails}
 use Rattle.judging.proofs.LentSizes.{kept-told, told-either}
-use Rattle.judging.proofs.Endings.{nothing-more}
-use Rattle.list_calls.proofs.ListCalls.{list-early, list-says, list-unsound, list-done}
+use Rattle.list_calls.proofs.ListCalls.{list-early, list-says, list-unsound, list-later, list-done}
 
 -- ---- the records of a list
 
@@ -49,21 +52,25 @@ module _ (count : ℤ) (s : List ℤ) {n : ℕ} {places : List ℕ} (e : n ≡ l
 -- ---- the call
 
 -- refusals are above 2
-late-broadcast : (layouts : List Layout) (rule : Rule) → Late (broadcast layouts rule)
+late-broadcast : (mode : Mode) (layouts : List Layout) (rule : Rule) → Late (broadcast mode layouts rule)
 late-broadcast = broadcast-refusing AboveTwo (omega arith) (omega arith) (omega arith) (omega arith) (omega arith)
 
-module _ (s : List ℤ) (count : ℤ) (operator : ℕ) (result work : List ℤ) where
+module _ (s : List ℤ) (count : ℤ) (operator : ℕ) (mode : ℤ) (result work : List ℤ) where
   abbrev told : Bool
   told = overCount count || any overRecord (recordsIn count s)
 
   abbrev good : Bool
   good = all sound (recordsIn count s)
 
+  -- 5
+  abbrev wrong : List Reason
+  wrong = 5 when not (goodMode mode) ∷ []
+
   abbrev gives : Verdict Layout
-  gives = broadcast (map layoutIn (recordsIn count s)) (ruleOf operator)
+  gives = broadcast (modeOf mode) (map layoutIn (recordsIn count s)) (ruleOf operator)
 
   abbrev call : Verdict Layout
-  call = lowest (sizeReasons told (length result) (length work) (3 when not good ∷ [])) then λ _. gives
+  call = lowest (sizeReasons told (length result) (length work) (3 when not good ∷ wrong)) then λ _. gives
 
   -- 1 or 2
   module _ {a b o : Bool} (a-is : a ≡ overCount count) (b-is : b ≡ any overRecord (recordsIn count s)) (o-is : o ≡ a || b) where
@@ -72,7 +79,7 @@ module _ (s : List ℤ) (count : ℤ) (operator : ℕ) (result work : List ℤ) 
 
     module _ {r : Sizes} (sizes : SizesAre o (length result) (length work) r) where
       pub broadcast-early : {why : Refusal} → r ≡ Refused why → Ends (inForm encode call) result work (NotWritten why) result work
-      broadcast-early e = list-early told good [] gives result work o-told sizes e
+      broadcast-early e = list-early told good wrong gives result work o-told sizes e
 
       pub broadcast-kept : r ≡ Kept → SizesKept told (length result) (length work)
       broadcast-kept e = kept-told o-told sizes e
@@ -83,20 +90,26 @@ module _ (s : List ℤ) (count : ℤ) (operator : ℕ) (result work : List ℤ) 
 
     -- 3
     pub broadcast-unsound : not t ≡ true → {r : Written} {work′ : List ℤ} → (r ≡ NotWritten Unsound) × (work′ ≡ over (zeros workSize) work) → Ends (inForm encode call) result work r result work′
-    broadcast-unsound e f = list-unsound told good [] gives result work k tt (good-told ∙ not-true t e) f
+    broadcast-unsound e f = list-unsound told good wrong gives result work k (omega arith, tt) (good-told ∙ not-true t e) f
+
+    -- 5
+    pub broadcast-wrong : not t ≡ false → goodMode mode ≡ false → {r : Written} {work′ : List ℤ} → (r ≡ NotWritten WrongArgument) × (work′ ≡ over (zeros workSize) work) →
+        Ends (inForm encode call) result work r result work′
+    broadcast-wrong e w f =
+        list-later told good wrong gives result work k (omega arith, tt) (good-told ∙ not-false t e) (argument-wrong (not (goodMode mode)) (not-fails (goodMode mode) w)) f
 
     -- no reason holds: the window came back from the step
-    module _ {rule : Rule} (rule-is : rule ≡ ruleOf operator) {step : Step} {w : List ℤ} (same : length w ≡ length (lentOf 0 windowSize work))
-        (says : Says (broadcast (layoutsAt n places s) rule) left w step) where
+    module _ {way : Mode} (m : ModeGood mode way) {rule : Rule} (rule-is : rule ≡ ruleOf operator) {step : Step} {w : List ℤ} (same : length w ≡ length (lentOf 0 windowSize work))
+        (says : Says (broadcast way (layoutsAt n places s) rule) left w step) where
       said : Says gives left w step
-      said = rw (← rule-is, ← are) says
+      said = rw (← m .is, ← rule-is, ← are) says
 
       pub broadcast-says : Says gives left (backIn 0 windowSize work w) step
-      broadcast-says = list-says told good [] gives result work k left (omega arith) same said
+      broadcast-says = list-says told good wrong gives result work k left (omega arith) same said
 
       pub broadcast-done : not t ≡ false → {result′ work′ : List ℤ} {r : Written} → Finished step left (backIn 0 windowSize work w) result r work′ result′ →
           Ends (inForm encode call) result work r result′ work′
-      broadcast-done e f = list-done told good [] gives result work k tt (good-told ∙ not-false t e) nothing-more (late-broadcast _ _) left (omega arith) same said f
+      broadcast-done e f = list-done told good wrong gives result work k (omega arith, tt) (good-told ∙ not-false t e) (argument-right (not (goodMode mode)) (not-holds (goodMode mode) (m .good))) (late-broadcast _ _ _) left (omega arith) same said f
 
 -- what the step requires
 pub records-judged : {n : ℕ} {places : List ℕ} {s : List ℤ} {t : Bool} → (t ≡ true → EachAt JudgedRecord n places s) → not t ≡ false → EachAt JudgedRecord n places s
