@@ -11,6 +11,7 @@ use lib.Dec.{eqb}
 use lib.IntN.{ℤ}
 use lib.ListN.{length, getD, take, drop, length-take}
 use Rattle.rules.specs.declared.Head.{Head}
+use Rattle.rules.specs.declared.Mode.{Mode}
 use Rattle.rules.specs.declared.Refusal.the-variants.{ShapesDisagree, DenseAxes, MadeUnsound, MadeTooLarge}
 use Rattle.rules.specs.declared.Step.{Step}
 use Rattle.rules.specs.declared.Step.the-variants.{Done, Refused}
@@ -23,7 +24,7 @@ use Rattle.rules.specs.Stretching.{sharedAxesFit, stretched, broadcastToShape, 
 use Rattle.rules.proofs.Same.{both-true}
 use Rattle.rules.proofs.Made.{fewOr}
 use Rattle.rules.proofs.Stretching.{Stretches}
-use Rattle.rules.proofs.StretchedAlone.{stretch-disagrees, stretch-bars, stretch-breaks, stretch-given}
+use Rattle.rules.proofs.StretchedAnswers.{stretch-disagrees, stretch-bars, stretch-breaks, stretch-given}
 use Rattle.rules.proofs.ToRank.{fit-product, rank-disagrees, rank-stretches}
 use Rattle.rules.proofs.Given.{stretch-sound, stretch-low}
 use Rattle.cells.specs.View.{view}
@@ -73,8 +74,8 @@ module _ {h : Head} {src : List ℤ} {at n : ℕ} {shape : List ℤ} (a : Stretc
   abbrev new : List ℕ
   new = rowAt at n shape
 
-  abbrev answer : Verdict Layout
-  answer = broadcastToShape (layoutIn src) new
+  abbrev answer : Mode → Verdict Layout
+  answer mode = broadcastToShape mode (layoutIn src) new
 
   new-length : length new ≡ n
   new-length = row-length at n shape (a .shapes .new-in)
@@ -88,18 +89,18 @@ module _ {h : Head} {src : List ℤ} {at n : ℕ} {shape : List ℤ} (a : Stretc
     told = rw (shape-is (a .source)) (sym e)
 
     -- shared axes do not fit: 6
-    pub disagrees : not r ≡ true → (s : List ℤ) → Says answer 0 s (Refused ShapesDisagree)
+    pub disagrees : (mode : Mode) → not r ≡ true → (s : List ℤ) → Says (answer mode) 0 s (Refused ShapesDisagree)
     unfolding numberOf
-    disagrees f s = says-refused ShapesDisagree 0 _ (stretch-disagrees (layoutIn src) new (told ∙ not-true r f))
+    disagrees mode f s = says-refused ShapesDisagree 0 _ (stretch-disagrees mode (layoutIn src) new (told ∙ not-true r f))
 
     module _ (f : not r ≡ false) where
       fits : sharedAxesFit (layoutIn src .shape) new ≡ true
       fits = told ∙ not-false r f
 
       -- D would fall below 0: 11
-      pub bars : n < h .width → (s : List ℤ) → Says answer 0 s (Refused DenseAxes)
+      pub bars : (mode : Mode) → n < h .width → (s : List ℤ) → Says (answer mode) 0 s (Refused DenseAxes)
       unfolding numberOf
-      bars g s = says-refused DenseAxes 0 _ (stretch-bars (layoutIn src) new fits (omega (arith, new-length, sum-is (a .source))))
+      bars mode g s = says-refused DenseAxes 0 _ (stretch-bars mode (layoutIn src) new fits (omega (arith, new-length, sum-is (a .source))))
 
       module _ (wide : h .width ≤ n) where
         stretches : Stretches (layoutIn src) new
@@ -113,12 +114,12 @@ module _ {h : Head} {src : List ℤ} {at n : ℕ} {shape : List ℤ} (a : Stretc
 
         module _ {b : Bool} (is : b ≡ eqb (getD (view src) 0 0) 1 && not (alike (rowAt at (h .width) shape))) where
           -- a diagonal whose axes would not be alike: 12
-          pub breaks : b ≡ true → (s : List ℤ) → Says answer 0 s (Refused MadeUnsound)
+          pub breaks : (mode : Mode) → b ≡ true → (s : List ℤ) → Says (answer mode) 0 s (Refused MadeUnsound)
           unfolding numberOf
-          breaks g s =
+          breaks mode g s =
               let k = both-true (eqb (getD (view src) 0 0) 1) (not (alike (rowAt at (h .width) shape))) (sym is ∙ g) in
               says-refused MadeUnsound 0 _
-              (stretch-breaks stretches (layout-sound (a .source) .form) (kind-shown (a .source) ∙ eqb-true (getD (view src) 0 0) 1 (k .0)) (rw front (not-true (alike (rowAt at (h .width) shape)) (k .1))))
+              (stretch-breaks mode stretches (layout-sound (a .source) .form) (kind-shown (a .source) ∙ eqb-true (getD (view src) 0 0) 1 (k .0)) (rw front (not-true (alike (rowAt at (h .width) shape)) (k .1))))
 
           -- the kind as it was read
           module _ {kind : ℕ} (kind-is : kind ≡ getD (view src) 0 0) where
@@ -149,10 +150,10 @@ module _ {h : Head} {src : List ℤ} {at n : ℕ} {shape : List ℤ} (a : Stretc
             straight : implies (isDiagonal (layoutIn src)) (alike (take (width (layoutIn src)) new)) ≡ true
             straight = rw (front, kind-shown (a .source)) (not-both (eqb (getD (view src) 0 0) 1) (alike (rowAt at (h .width) shape)) (sym is ∙ g))
 
-            answer-is : answer ≡ fewOr (stretched (layoutIn src) new)
-            answer-is = stretch-given stretches (layout-sound (a .source)) (rw new-length (a .shapes .new-few)) small straight
+            answer-is : (mode : Mode) → answer mode ≡ fewOr (stretched mode (layoutIn src) new)
+            answer-is mode = stretch-given mode stretches (layout-sound (a .source)) (rw new-length (a .shapes .new-few)) small straight
 
-            module _ {t : List ℤ} {z : Bool} (p : TablesMade (layoutIn src) new s t z) where
+            module _ (mode : Mode) {t : List ℤ} {z : Bool} (p : TablesMade mode (layoutIn src) new s t z) where
               -- the head in the end
               front-stays : (k : ℕ) → k < 7 → getD (view t) k 0 ≡ getD (view s) k 0
               front-stays k i = view-outside (p .only) k (inl i)
@@ -169,7 +170,7 @@ module _ {h : Head} {src : List ℤ} {at n : ℕ} {shape : List ℤ} (a : Stretc
               shape-there : rowAt 3 (length new) t ≡ new
               shape-there = row-outside (p .only) 3 (length new) (inl (omega (arith, new-length, a .shapes .new-few))) ∙ m .head .shape-is
 
-              layout-there : z ≡ true → layoutAt 0 t ≡ stretched (layoutIn src) new
+              layout-there : z ≡ true → layoutAt 0 t ≡ stretched mode (layoutIn src) new
               unfolding layoutAt stretched
               layout-there d =
                   let narrow : length new - (layoutIn src .dense + length new - rank (layoutIn src)) ≡ width (layoutIn src) =
@@ -177,23 +178,23 @@ module _ {h : Head} {src : List ℤ} {at n : ℕ} {shape : List ℤ} (a : Stretc
                   rw (kind-there, dense-there, rank-there, narrow, shape-there, p .rows d, p .states d, p .inputs d)
 
               -- it is made
-              pub is-made : z ≡ true → Says answer 0 t Done
+              pub is-made : z ≡ true → Says (answer mode) 0 t Done
               unfolding stretched
               is-made d =
-                  let is : answer ≡ given (layoutAt 0 t) = answer-is ∙ rw (← p .verdict, d) (ap given (sym (layout-there d))) in
+                  let is : answer mode ≡ given (layoutAt 0 t) = answer-is mode ∙ rw (← p .verdict, d) (ap given (sym (layout-there d))) in
                   record {
                     is = sym is;
                     holds = λ _. record {
                       inside = rw (p .only .size, m .only .size) room;
-                      sound = stretch-sound (layoutIn src) new is;
-                      low = stretch-low (layoutIn src) new is (deps-low (a .source));
+                      sound = stretch-sound mode (layoutIn src) new is;
+                      low = stretch-low mode (layoutIn src) new is (deps-low (a .source));
                     };
                   }
 
               -- or too large: 13
-              pub too-large : z ≡ false → Says answer 0 t (Refused MadeTooLarge)
+              pub too-large : z ≡ false → Says (answer mode) 0 t (Refused MadeTooLarge)
               unfolding numberOf stretched
-              too-large d = says-refused MadeTooLarge 0 _ (answer-is ∙ rw (← p .verdict, d))
+              too-large d = says-refused MadeTooLarge 0 _ (answer-is mode ∙ rw (← p .verdict, d))
 
 -- ---- `stretch_to_rank`
 
@@ -206,9 +207,9 @@ module _ {h : Head} {src : List ℤ} {n : ℕ} (q : SoundRecord h src × (n ≤ 
     cut-told = rw (shape-is (q .0)) (sym e)
 
     -- a cut axis is not 1: 6
-    pub cut-disagrees : not b ≡ true → (s : List ℤ) → Says (broadcastToRank (layoutIn src) n) 0 s (Refused ShapesDisagree)
+    pub cut-disagrees : (mode : Mode) → not b ≡ true → (s : List ℤ) → Says (broadcastToRank mode (layoutIn src) n) 0 s (Refused ShapesDisagree)
     unfolding numberOf
-    cut-disagrees f s = says-refused ShapesDisagree 0 _ (rank-disagrees (layoutIn src) n (cut-told ∙ not-true b f))
+    cut-disagrees mode f s = says-refused ShapesDisagree 0 _ (rank-disagrees mode (layoutIn src) n (cut-told ∙ not-true b f))
 
     module _ (f : not b ≡ false) (extents : List ℤ) (long : length extents ≡ 4) (is : rowAt 0 n extents ≡ fitTo n 1 (extentsIn (h .rank) src)) where
       pub ask-stretch : StretchAsked h src 0 n extents
@@ -227,10 +228,10 @@ module _ {h : Head} {src : List ℤ} {n : ℕ} (q : SoundRecord h src × (n ≤ 
       }
 
       -- what the step says is said of the rank
-      pub rank-said : {t : List ℤ} {step : Step} → Says (broadcastToShape (layoutIn src) (rowAt 0 n extents)) 0 t step → Says (broadcastToRank (layoutIn src) n) 0 t step
-      rank-said p =
+      pub rank-said : (mode : Mode) {t : List ℤ} {step : Step} → Says (broadcastToShape mode (layoutIn src) (rowAt 0 n extents)) 0 t step → Says (broadcastToRank mode (layoutIn src) n) 0 t step
+      rank-said mode p =
           let new : rowAt 0 n extents ≡ fitTo n 1 (layoutIn src .shape) = is ∙ ap (fitTo n 1) (sym (shape-is (q .0))) in
-          rw (rank-stretches (layoutIn src) n (cut-told ∙ not-false b f), ← new) p
+          rw (rank-stretches mode (layoutIn src) n (cut-told ∙ not-false b f), ← new) p
 
 -- ---- what is asked
 

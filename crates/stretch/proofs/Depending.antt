@@ -7,9 +7,10 @@ use native.Mathlib.Numerals.{add-one}
 use native.Mathlib.Omega.{arith}
 use lib.IntN.{ℤ, pos}
 use lib.ListN.{length, set}
+use Rattle.rules.specs.declared.Mode.{Mode}
 use Rattle.rules.specs.Lists.{gather, from, fitTo}
 use Rattle.rules.specs.Dependencies.{onIndex}
-use Rattle.rules.specs.Stretching.{stretchedAxes, alone}
+use Rattle.rules.specs.Stretching.{stretchedAxes, yields}
 use Rattle.rules.proofs.Changed.{changed-low}
 use Rattle.rules.proofs.Gathering.{gather-append}
 use Rattle.rules.proofs.Replaced.{fit-low}
@@ -33,32 +34,32 @@ rows-turn f a w (suc n) s =
     rw (rows-more a w n s, gather-append f (rowsAt a w n s), rows-turn f a w n s, append-nil) (sym (turn-more (λ k. f (rowAt (a + k * w) w s)) n)) in
     rw add-one at more
 
--- what one dependency yields
-abbrev pub yieldOf : ℕ → ℕ → List ℤ → List ℕ → ℕ → List (List ℕ)
-yieldOf first old src new k = alone new (stretchedAxes (extentsIn old src) new) (onIndex (fitTo (length new) 0) (rowAt (first + k * (old + 1)) (old + 1) src))
+-- what one dependency yields in a mode
+abbrev pub yieldOf : Mode → ℕ → ℕ → List ℤ → List ℕ → ℕ → List (List ℕ)
+yieldOf mode first old src new k = yields mode new (stretchedAxes (extentsIn old src) new) (onIndex (fitTo (length new) 0) (rowAt (first + k * (old + 1)) (old + 1) src))
+
+-- all of it is what the rule gathers
+pub all-yielded : (mode : Mode) {first count old : ℕ} {src : List ℤ} {at rank : ℕ} {shape : List ℤ} {to : ℕ} {entry s t : List ℤ} {r : Bool} →
+    DepsAsked first count old src at rank shape to entry → s ≡ set entry to (pos 0) → Taken to (rank + 1) (inTurn (yieldOf mode first old src (rowAt at rank shape)) count) s t r →
+    Listed to (rank + 1) (yielded mode first count old src (rowAt at rank shape)) entry t r
+all-yielded mode {first} {count} {old} {src} {at} {rank} {shape} {entry = entry} a e p =
+    rw (rows-turn (λ d. yields mode (rowAt at rank shape) (stretchedAxes (extentsIn old src) (rowAt at rank shape)) (onIndex (fitTo (length (rowAt at rank shape)) 0) d)) first (old + 1) count src)
+    (cleared-listed entry e (a .room) p)
 
 -- what the first i dependencies yield is in the table
-pub record Depending (first count old : ℕ) (src : List ℤ) (at rank : ℕ) (shape : List ℤ) (to i : ℕ) (s t : List ℤ) : Type 0 where
+pub record Depending (mode : Mode) (first count old : ℕ) (src : List ℤ) (at rank : ℕ) (shape : List ℤ) (to i : ℕ) (s t : List ℤ) : Type 0 where
   pub rows : HasRows first (old + 1) count src
   pub shapes : Shapes old src at rank shape
   pub upto : i ≤ count
-  pub taken : Taken to (rank + 1) (inTurn (yieldOf first old src (rowAt at rank shape)) i) s t true
+  pub taken : Taken to (rank + 1) (inTurn (yieldOf mode first old src (rowAt at rank shape)) i) s t true
 
-module _ {first count old : ℕ} {src : List ℤ} {at rank : ℕ} {shape : List ℤ} {to : ℕ} {s : List ℤ} where
-  pub start : {entry : List ℤ} → DepsAsked first count old src at rank shape to entry → s ≡ set entry to (pos 0) → Depending first count old src at rank shape to 0 s s
+module _ {mode : Mode} {first count old : ℕ} {src : List ℤ} {at rank : ℕ} {shape : List ℤ} {to : ℕ} {s : List ℤ} where
+  pub start : {entry : List ℤ} → DepsAsked first count old src at rank shape to entry → s ≡ set entry to (pos 0) → Depending mode first count old src at rank shape to 0 s s
   unfolding gather from
   start {entry} a e = record { rows = a .rows; shapes = a .shapes; upto = omega arith; taken = taken-none (cleared-ready entry e (a .room)) }
 
-  module _ {entry : List ℤ} (a : DepsAsked first count old src at rank shape to entry) (e : s ≡ set entry to (pos 0)) {t : List ℤ} {r : Bool} where
-    -- all of it is what the rule gathers
-    pub all-yielded : Taken to (rank + 1) (inTurn (yieldOf first old src (rowAt at rank shape)) count) s t r →
-        Listed to (rank + 1) (yielded first count old src (rowAt at rank shape)) entry t r
-    all-yielded p =
-        rw (rows-turn (λ d. alone (rowAt at rank shape) (stretchedAxes (extentsIn old src) (rowAt at rank shape)) (onIndex (fitTo (length (rowAt at rank shape)) 0) d)) first (old + 1) count src)
-        (cleared-listed entry e (a .room) p)
-
-  module _ {i : ℕ} {t : List ℤ} (g : Depending first count old src at rank shape to i s t) where
-    pub done : count ≤ i → Taken to (rank + 1) (inTurn (yieldOf first old src (rowAt at rank shape)) count) s t true
+  module _ {i : ℕ} {t : List ℤ} (g : Depending mode first count old src at rank shape to i s t) where
+    pub done : count ≤ i → Taken to (rank + 1) (inTurn (yieldOf mode first old src (rowAt at rank shape)) count) s t true
     done h = let u = g .upto in let e : i ≡ count = omega arith in rw e at (g .taken)
 
     module _ (h : i < count) where
@@ -83,19 +84,19 @@ module _ {first count old : ℕ} {src : List ℤ} {at rank : ℕ} {shape : List 
           target = g .taken .ready refl;
         }
 
-        module _ {u : List ℤ} {r : Bool} (p : Taken to (rank + 1) (alone (rowAt at rank shape) (stretchedAxes (extentsIn old src) (rowAt at rank shape)) (rowAt 0 (rank + 1) entry)) t u r) where
-          one : Taken to (rank + 1) (yieldOf first old src (rowAt at rank shape) i) t u r
+        module _ {u : List ℤ} {r : Bool} (p : Taken to (rank + 1) (yields mode (rowAt at rank shape) (stretchedAxes (extentsIn old src) (rowAt at rank shape)) (rowAt 0 (rank + 1) entry)) t u r) where
+          one : Taken to (rank + 1) (yieldOf mode first old src (rowAt at rank shape) i) t u r
           one = rw (row-length at rank shape (g .shapes .new-in)) (rw is at p)
 
-          pub turn : r ≡ true → Depending first count old src at rank shape to (i + 1) s u
+          pub turn : r ≡ true → Depending mode first count old src at rank shape to (i + 1) s u
           turn e = record {
             rows = g .rows;
             shapes = g .shapes;
             upto = omega arith;
-            taken = taken-turn [] (yieldOf first old src (rowAt at rank shape)) (g .taken) one e;
+            taken = taken-turn [] (yieldOf mode first old src (rowAt at rank shape)) (g .taken) one e;
           }
 
-          pub stop : r ≡ false → Taken to (rank + 1) (inTurn (yieldOf first old src (rowAt at rank shape)) count) s u false
-          stop e = taken-halt [] (yieldOf first old src (rowAt at rank shape)) (g .taken) one count h e
+          pub stop : r ≡ false → Taken to (rank + 1) (inTurn (yieldOf mode first old src (rowAt at rank shape)) count) s u false
+          stop e = taken-halt [] (yieldOf mode first old src (rowAt at rank shape)) (g .taken) one count h e
 
 pub ruleset laws = (start, all-yielded, ask-fit, ask-entry, turn, stop, done)

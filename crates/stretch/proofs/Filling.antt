@@ -1,25 +1,22 @@
 -- `fill`: the tables of the part are those of the stretched layout. Assumes nothing.
 use mathlib.Core.Path.{_≡_, refl, sym, ap, _∙_}
 use mathlib.Core.Bool.{Bool, true, false, not}
-use mathlib.Core.List.{List, [], _∷_, map}
-use mathlib.Core.Logic.{_⊎_, inl, inr}
-use Prim.Native.Nat.{ℕ, zero, suc, _+_, _<_, _≤_}
-use native.Mathlib.Nat.{one-mul, le-trans, add-suc, suc-add, add-zero, zero-add}
+use mathlib.Core.List.{List}
+use mathlib.Core.Logic.{inl}
+use Prim.Native.Nat.{ℕ, _+_}
 use native.Mathlib.Omega.{arith}
-use borrow.Author.Tests.{le-leb, leb-true, not-true, not-false}
+use borrow.Author.Tests.{not-true, not-false}
 use lib.IntN.{ℤ}
-use lib.ListN.{length, getD}
+use lib.ListN.{length}
 use Rattle.rules.specs.declared.Head.{Head}
-use Rattle.rules.specs.Limits.{productLimit}
-use Rattle.rules.specs.Lists.{from}
+use Rattle.rules.specs.declared.Mode.{Mode}
 use Rattle.rules.specs.RowsInOrder.{sorted, sortedFew}
-use Rattle.rules.specs.Layout.{Layout, rank, width, few, withinProduct, nonzeroProduct}
+use Rattle.rules.specs.Layout.{Layout, rank, width, few}
 use Rattle.rules.specs.Soundness.{Sound}
 use Rattle.rules.specs.Record.{layoutIn}
-use Rattle.rules.specs.Stretching.{isStretched, stretchRows, stretchDeps}
+use Rattle.rules.specs.Stretching.{stretchRows, stretchDeps}
 use Rattle.rules.proofs.Same.{true-not-false}
 use Rattle.rules.proofs.Few.{few-sorted, sorted-few}
-use Rattle.rules.proofs.Extents.{nonzero-more, nonzero-cons, nonzero-more-axes}
 use Rattle.rules.proofs.Low.{rows-low}
 use Rattle.rules.proofs.Stretching.{Stretches}
 use Rattle.tables.specs.Rows.{rowAt}
@@ -30,42 +27,11 @@ use Rattle.records.specs.Sound.{SoundRecord}
 use Rattle.records.proofs.Layouts.{seen, axes, rows-room, has-states, has-inputs}
 use Rattle.records.proofs.SoundRecords.{lies, layout-sound, layout-shown}
 use Rattle.parts.specs.Parts.{partSize, rowsFrom, statesFrom, inputsFrom}
-use Rattle.stretch.specs.Spread.{extentsIn, valuesOn, spreadOver}
+use Rattle.stretch.specs.Spread.{extentsIn, SpreadIs}
 use Rattle.stretch.specs.Tables.{DepsAsked, RowsAsked, movedRows, yielded}
 use Rattle.stretch.specs.Layouts.{FillAsked, TablesMade}
-use Rattle.stretch.proofs.ListedRows.{listed-rows}
-
--- ---- the product of the values
-
--- extents of which some are replaced by 1 multiply to no more
-fewer-values : (f : ℕ → ℕ) (a n : ℕ) (l : List ℕ) → n ≤ length l → ((k : ℕ) → k < n → (f (a + k) ≡ getD l k 0) ⊎ (f (a + k) ≡ 1)) →
-    nonzeroProduct (map f (from a n)) ≤ nonzeroProduct l
-unfolding from
-fewer-values f a zero [] h g = omega arith
-fewer-values f a zero (x ∷ l) h g = le-trans (fewer-values f a zero l (omega arith) (λ k i. absurd (omega arith))) (nonzero-more-axes x l)
-fewer-values f a (suc n) [] h g = absurd (omega arith)
-fewer-values f a (suc n) (x ∷ l) h g =
-    let rest : nonzeroProduct (map f (from (suc a) n)) ≤ nonzeroProduct l =
-    fewer-values f (suc a) n l (omega arith) (λ k i. rw (suc-add a k, ← add-suc a k) (g (suc k) (omega arith))) in
-    by rest (rw add-zero at (g 0 (omega arith)))
-  where
-    by : nonzeroProduct (map f (from (suc a) n)) ≤ nonzeroProduct l → (f a ≡ x) ⊎ (f a ≡ 1) → nonzeroProduct (f a ∷ map f (from (suc a) n)) ≤ nonzeroProduct (x ∷ l)
-    by rest (inl e) = rw e (nonzero-cons x (map f (from (suc a) n)) l rest)
-    by rest (inr e) =
-        rw (e, nonzero-more 1 (map f (from (suc a) n)) (λ z. omega arith), one-mul) (le-trans rest (nonzero-more-axes x l))
-
-values-one : (old new : List ℕ) (k : ℕ) → (valuesOn old new k ≡ getD new k 0) ⊎ (valuesOn old new k ≡ 1)
-values-one old new k = by (isStretched old new k) refl
-  where
-    by : (b : Bool) → isStretched old new k ≡ b → (valuesOn old new k ≡ getD new k 0) ⊎ (valuesOn old new k ≡ 1)
-    by true e = inl (rw e)
-    by false e = inr (rw e)
-
-spread-within : (old new : List ℕ) (w : ℕ) → w ≤ length new → withinProduct new ≡ true → withinProduct (spreadOver old new w) ≡ true
-unfolding withinProduct
-spread-within old new w h e =
-    le-leb (nonzeroProduct (spreadOver old new w)) productLimit
-    (le-trans (fewer-values (valuesOn old new) 0 w new h (λ k i. rw zero-add (values-one old new k))) (leb-true (nonzeroProduct new) productLimit e))
+use Rattle.stretch.proofs.ListedRows.{row-spreads, listed-rows}
+use Rattle.stretch.proofs.Within.{values-within}
 
 -- ---- a list that was gathered until there were too many
 
@@ -106,7 +72,7 @@ module _ {h : Head} {src : List ℤ} {at n : ℕ} {shape s : List ℤ} (a : Fill
 
   -- ---- rows
 
-  module _ (extents : List ℤ) (long : length extents ≡ 4) (is : rowAt 0 (h .width) extents ≡ spreadOver (extentsIn (h .rank) src) new (h .width)) where
+  module _ (extents : List ℤ) (long : length extents ≡ 5) (is : SpreadIs (extentsIn (h .rank) src) new (h .width) extents) where
     pub ask-rows : RowsAsked (h .rows .first) (h .rows .count) (h .width) src extents s
     ask-rows =
         let b = lies source in
@@ -116,13 +82,13 @@ module _ {h : Head} {src : List ℤ} {at n : ℕ} {shape s : List ℤ} (a : Fill
           rows-small = λ r m k i. omega (arith, rows-low sound r m k);
           extents-are = record {
             room = omega (arith, b .narrow, b .rank-few);
-            within = rw is (spread-within (extentsIn (h .rank) src) new (h .width) (rw new-length (a .wide)) (a .asked .shapes .within));
+            within = rw (is .values) (values-within (rw width-is at (row-spreads (sound .form) stretches)) (a .asked .shapes .within));
           };
           target = omega (arith, b .narrow, b .rank-few, a .room);
         }
 
     rows-are : sorted (movedRows (h .rows .first) (h .rows .count) (h .width) src (rowAt 0 (h .width) extents)) ≡ stretchRows l new
-    rows-are = rw is (rw width-is at (listed-rows (sound .form) stretches))
+    rows-are = rw (is .values) (rw width-is at (listed-rows (sound .form) stretches))
 
     module _ {t : List ℤ} {r : Bool} (p : Listed rowsFrom (h .width) (movedRows (h .rows .first) (h .rows .count) (h .width) src (rowAt 0 (h .width) extents)) s t r) where
       rows-verdict : r ≡ few (stretchRows l new)
@@ -135,8 +101,8 @@ module _ {h : Head} {src : List ℤ} {at n : ℕ} {shape s : List ℤ} (a : Fill
       rows-only = let b = lies source in only-wider (p .only) rowsFrom statesFrom (omega arith) (omega (arith, b .narrow, b .rank-few))
 
       -- they are too many
-      pub rows-over : not r ≡ true → TablesMade (layoutIn src) new s t false
-      rows-over e =
+      pub rows-over : (mode : Mode) → not r ≡ true → TablesMade mode (layoutIn src) new s t false
+      rows-over mode e =
           let f = not-true r e in
           rw (layout-shown source)
           (record {
@@ -157,12 +123,12 @@ module _ {h : Head} {src : List ℤ} {at n : ℕ} {shape s : List ℤ} (a : Fill
           room = omega (arith, p .only .size, a .room, a .asked .shapes .new-few);
         }
 
-        module _ {u : List ℤ} {q : Bool} (d : Listed statesFrom (n + 1) (yielded (h .states .first) (h .states .count) (h .rank) src new) t u q) where
-          states-verdict : q ≡ few (stretchDeps (l .shape) new (l .states))
+        module _ (mode : Mode) {u : List ℤ} {q : Bool} (d : Listed statesFrom (n + 1) (yielded mode (h .states .first) (h .states .count) (h .rank) src new) t u q) where
+          states-verdict : q ≡ few (stretchDeps mode (l .shape) new (l .states))
           unfolding stretchDeps
           states-verdict = few-verdict d
 
-          states-table : q ≡ true → tableAt statesFrom (length new + 1) u ≡ stretchDeps (l .shape) new (l .states)
+          states-table : q ≡ true → tableAt statesFrom (length new + 1) u ≡ stretchDeps mode (l .shape) new (l .states)
           unfolding stretchDeps
           states-table f = ap (λ (k : ℕ). tableAt statesFrom (k + 1) u) new-length ∙ few-table d f
 
@@ -173,7 +139,7 @@ module _ {h : Head} {src : List ℤ} {at n : ℕ} {shape s : List ℤ} (a : Fill
           both-only = only-then (only-wider rows-only rowsFrom inputsFrom (omega arith) (omega arith)) (only-wider states-only rowsFrom inputsFrom (omega arith) (omega arith))
 
           -- they are too many
-          pub states-over : not q ≡ true → TablesMade (layoutIn src) new s u false
+          pub states-over : not q ≡ true → TablesMade mode (layoutIn src) new s u false
           states-over f =
               let g = not-true q f in
               rw (layout-shown source)
@@ -195,12 +161,12 @@ module _ {h : Head} {src : List ℤ} {at n : ℕ} {shape s : List ℤ} (a : Fill
               room = omega (arith, both-only .size, a .room, a .asked .shapes .new-few);
             }
 
-            module _ {v : List ℤ} {z : Bool} (i : Listed inputsFrom (n + 1) (yielded (h .inputs .first) (h .inputs .count) (h .rank) src new) u v z) where
-              inputs-verdict : z ≡ few (stretchDeps (l .shape) new (l .inputs))
+            module _ {v : List ℤ} {z : Bool} (i : Listed inputsFrom (n + 1) (yielded mode (h .inputs .first) (h .inputs .count) (h .rank) src new) u v z) where
+              inputs-verdict : z ≡ few (stretchDeps mode (l .shape) new (l .inputs))
               unfolding stretchDeps
               inputs-verdict = few-verdict i
 
-              inputs-table : z ≡ true → tableAt inputsFrom (length new + 1) v ≡ stretchDeps (l .shape) new (l .inputs)
+              inputs-table : z ≡ true → tableAt inputsFrom (length new + 1) v ≡ stretchDeps mode (l .shape) new (l .inputs)
               unfolding stretchDeps
               inputs-table g = ap (λ (k : ℕ). tableAt inputsFrom (k + 1) v) new-length ∙ few-table i g
 
@@ -222,7 +188,7 @@ module _ {h : Head} {src : List ℤ} {at n : ℕ} {shape s : List ℤ} (a : Fill
                   (table-outside inputs-only statesFrom (n + 1) (d .ready (not-false q f) .fits .few) (inl (omega (arith, a .asked .shapes .new-few))))
 
               -- all three tables
-              pub tables-made : TablesMade (layoutIn src) new s v z
+              pub tables-made : TablesMade mode (layoutIn src) new s v z
               tables-made =
                   rw (layout-shown source)
                   (record {

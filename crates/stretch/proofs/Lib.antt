@@ -4,7 +4,10 @@ pub mod Fitting
 pub mod StretchedAxes
 pub mod Values
 pub mod Yields
+pub mod Clearing
 pub mod Depending
+pub mod Within
+pub mod Together
 pub mod Plus
 pub mod Combinations
 pub mod Moves

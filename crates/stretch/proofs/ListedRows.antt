@@ -21,7 +21,8 @@ module _ {l : Layout} (w : WellFormed l) {new : List ℕ} (g : Stretches l new) 
   abbrev values : List ℕ
   values = spreadOver (l .shape) new (width l)
 
-  row-spreads : Spreads new (rowAxes l new) values (width l)
+  -- the new extent on the stretched axes of the rows, 1 on the others
+  pub row-spreads : Spreads new (rowAxes l new) values (width l)
   row-spreads = spreads-over (l .shape) new (width l) (rowAxes l new) (λ k m. row-axis l new m) (λ k h e. is-row-axis l new h (omega (arith, g .room)) e)
 
   -- in order the rows plus every index are the rows of the rule

@@ -19,7 +19,7 @@ returns : tie.Need-returns
 returns c =
     let p = c .before .before in
     let e = p .before .before in
-    rows-over (e .before .before .before .before .pre) (e .spread-extents .result) (search needs) (e .spread-extents .ensures) (p .stretch-rows .ensures) (c .if1 .taken)
+    rows-over (e .before .before .before .before .pre) (e .spread-extents .result) (search needs) (e .spread-extents .ensures) (p .stretch-rows .ensures) _ (c .if1 .taken)
 
 stretch-deps-requires : tie.Need-stretch-deps-requires
 stretch-deps-requires c κs =
@@ -37,7 +37,7 @@ returns-2 c =
     let i = d .before .before in
     let p = i .before .before in
     let e = p .before .before in
-    states-over (e .before .before .before .before .pre) (e .spread-extents .result) (search needs) (e .spread-extents .ensures) (p .stretch-rows .ensures) (i .if1 .left) (d .stretch-deps .ensures) (c .if2 .taken)
+    states-over (e .before .before .before .before .pre) (e .spread-extents .result) (search needs) (e .spread-extents .ensures) (p .stretch-rows .ensures) (i .if1 .left) _ (d .stretch-deps .ensures) (c .if2 .taken)
 
 stretch-deps-requires-2 : tie.Need-stretch-deps-requires-2
 stretch-deps-requires-2 c κs =
@@ -46,7 +46,7 @@ stretch-deps-requires-2 c κs =
     let i = d .before .before in
     let p = i .before .before in
     let e = p .before .before in
-    ask-inputs (e .before .before .before .before .pre) (e .spread-extents .result) (search needs) (e .spread-extents .ensures) (p .stretch-rows .ensures) (i .if1 .left) (d .stretch-deps .ensures) (j .if2 .left)
+    ask-inputs (e .before .before .before .before .pre) (e .spread-extents .result) (search needs) (e .spread-extents .ensures) (p .stretch-rows .ensures) (i .if1 .left) _ (d .stretch-deps .ensures) (j .if2 .left)
 
 same-length-3 : tie.Need-same-length-3
 same-length-3 c = search needs
@@ -59,7 +59,7 @@ returns-3 c =
     let i = d .before .before in
     let p = i .before .before in
     let e = p .before .before in
-    tables-made (e .before .before .before .before .pre) (e .spread-extents .result) (search needs) (e .spread-extents .ensures) (p .stretch-rows .ensures) (i .if1 .left) (d .stretch-deps .ensures) (j .if2 .left) (n .stretch-deps2 .ensures)
+    tables-made (e .before .before .before .before .pre) (e .spread-extents .result) (search needs) (e .spread-extents .ensures) (p .stretch-rows .ensures) (i .if1 .left) _ (d .stretch-deps .ensures) (j .if2 .left) (n .stretch-deps2 .ensures)
 
 pub fill-spec : {M : Type 1} → statement M
 fill-spec =

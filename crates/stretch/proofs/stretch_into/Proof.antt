@@ -8,13 +8,13 @@ shared-fit-requires : tie.Need-shared-fit-requires
 shared-fit-requires c κs = c .pre .0 .shapes
 
 returns : tie.Need-returns
-returns c = let f = c .before in disagrees (f .before .pre .0) (f .shared-fit .ensures) (c .if1 .taken) _
+returns c = let f = c .before in disagrees (f .before .pre .0) (f .shared-fit .ensures) _ (c .if1 .taken) _
 
 returns-2 : tie.Need-returns-2
 returns-2 c =
     let i = c .before .before in
     let f = i .before in
-    bars (f .before .pre .0) (f .shared-fit .ensures) (i .if1 .left) (c .if2 .taken) _
+    bars (f .before .pre .0) (f .shared-fit .ensures) (i .if1 .left) _ (c .if2 .taken) _
 
 bends-requires : tie.Need-bends-requires
 bends-requires c κs =
@@ -28,7 +28,7 @@ returns-3 c =
     let w = b .before in
     let i = w .before .before in
     let f = i .before in
-    breaks (f .before .pre .0) (f .shared-fit .ensures) (i .if1 .left) (w .if2 .left) (b .bends .ensures) (c .if3 .taken) _
+    breaks (f .before .pre .0) (f .shared-fit .ensures) (i .if1 .left) (w .if2 .left) (b .bends .ensures) _ (c .if3 .taken) _
 
 get-requires : tie.Need-get-requires
 get-requires c κs = search needs
@@ -81,7 +81,7 @@ returns-4 c =
     let w = b .before in
     let i = w .before .before in
     let f = i .before in
-    is-made (f .before .pre .0) (f .shared-fit .ensures) (i .if1 .left) (w .if2 .left) (b .bends .ensures) (s .if3 .left) (r .get .ensures .0) (f .before .pre .1) (x .write-head .ensures) (y .fill .ensures) (c .if4 .taken)
+    is-made (f .before .pre .0) (f .shared-fit .ensures) (i .if1 .left) (w .if2 .left) (b .bends .ensures) (s .if3 .left) (r .get .ensures .0) (f .before .pre .1) (x .write-head .ensures) _ (y .fill .ensures) (c .if4 .taken)
 
 same-length-2 : tie.Need-same-length-2
 same-length-2 c = search needs
@@ -96,7 +96,7 @@ returns-5 c =
     let w = b .before in
     let i = w .before .before in
     let f = i .before in
-    too-large (f .before .pre .0) (f .shared-fit .ensures) (i .if1 .left) (w .if2 .left) (b .bends .ensures) (s .if3 .left) (r .get .ensures .0) (f .before .pre .1) (x .write-head .ensures) (y .fill .ensures) (c .if4 .left)
+    too-large (f .before .pre .0) (f .shared-fit .ensures) (i .if1 .left) (w .if2 .left) (b .bends .ensures) (s .if3 .left) (r .get .ensures .0) (f .before .pre .1) (x .write-head .ensures) _ (y .fill .ensures) (c .if4 .left)
 
 pub stretch-into-spec : {M : Type 1} → statement M
 stretch-into-spec =

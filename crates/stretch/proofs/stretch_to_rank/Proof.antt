@@ -8,7 +8,7 @@ cut-fit-requires : tie.Need-cut-fit-requires
 cut-fit-requires c κs = ask-extents (c .pre .0) .0
 
 returns : tie.Need-returns
-returns c = let f = c .before in cut-disagrees (f .before .pre .0) (f .cut-fit .ensures) (c .if1 .taken) _
+returns c = let f = c .before in cut-disagrees (f .before .pre .0) (f .cut-fit .ensures) _ (c .if1 .taken) _
 
 fitted-extents-requires : tie.Need-fitted-extents-requires
 fitted-extents-requires c κs = ask-extents (c .before .before .pre .0)
@@ -32,7 +32,7 @@ returns-2 c =
     let x = s .before .before .before in
     let i = x .before in
     let f = i .before in
-    rank-said (f .before .pre .0) (f .cut-fit .ensures) (i .if1 .left) (x .fitted-extents .result) (search needs) (x .fitted-extents .ensures) (s .stretch-into .ensures)
+    rank-said (f .before .pre .0) (f .cut-fit .ensures) (i .if1 .left) (x .fitted-extents .result) (search needs) (x .fitted-extents .ensures) _ (s .stretch-into .ensures)
 
 pub stretch-to-rank-spec : {M : Type 1} → statement M
 stretch-to-rank-spec =

@@ -8,10 +8,10 @@ use Rattle.stretch.proofs.deps.stretch_deps.Statement.{statement}
 use Rattle.stretch.proofs.deps.stretch_deps.Tie as tie
 
 abbrev Inv-loop : tie.InvT-loop
-Inv-loop from first count old shape at rank part₀ to i₀ part i = Depending first count old from at rank shape to i part₀ part
+Inv-loop mode from first count old shape at rank part₀ to i₀ part i = Depending mode first count old from at rank shape to i part₀ part
 
 abbrev μ-loop : tie.MeasureT-loop
-μ-loop from first count old shape at rank part₀ to i₀ part i = count - i
+μ-loop mode from first count old shape at rank part₀ to i₀ part i = count - i
 
 store-requires : tie.Need-store-requires Inv-loop μ-loop
 store-requires c κs = let a = c .before .pre in omega (arith, a .room)
@@ -31,8 +31,8 @@ add-fitted-2 c = omega (arith, place-ends (c .before .loop .inv) (c .loop-test .
 fitted-requires : tie.Need-fitted-requires Inv-loop μ-loop
 fitted-requires c κs = ask-fit (c .before .loop .inv) (c .loop-test .taken)
 
-put-alone-requires : tie.Need-put-alone-requires Inv-loop μ-loop
-put-alone-requires c κs =
+put-yield-requires : tie.Need-put-yield-requires Inv-loop μ-loop
+put-yield-requires c κs =
     let f = c .before in
     let i = f .before in
     ask-entry (i .before .loop .inv) (i .loop-test .taken) (f .fitted .result) (search needs) (f .fitted .ensures)
@@ -46,8 +46,8 @@ returns c =
     let f = p .before .before in
     let i = f .before in
     let t = i .before .before .before in
-    all-yielded (t .before .before .pre) (t .store .ensures)
-    (stop (i .before .loop .inv) (i .loop-test .taken) (f .fitted .result) (search needs) (f .fitted .ensures) (p .put-alone .ensures) (not-true (p .put-alone .result) (c .if1 .taken)))
+    all-yielded _ (t .before .before .pre) (t .store .ensures)
+    (stop (i .before .loop .inv) (i .loop-test .taken) (f .fitted .result) (search needs) (f .fitted .ensures) (p .put-yield .ensures) (not-true (p .put-yield .result) (c .if1 .taken)))
 
 add-i : tie.Need-add-i Inv-loop μ-loop
 add-i c = search (needs, laws)
@@ -60,7 +60,7 @@ loop-again c =
     let p = c .before .before in
     let f = p .before .before in
     let i = f .before in
-    turn (i .before .loop .inv) (i .loop-test .taken) (f .fitted .result) (search needs) (f .fitted .ensures) (p .put-alone .ensures) (not-false (p .put-alone .result) (c .if1 .left))
+    turn (i .before .loop .inv) (i .loop-test .taken) (f .fitted .result) (search needs) (f .fitted .ensures) (p .put-yield .ensures) (not-false (p .put-yield .result) (c .if1 .left))
 
 same-length-2 : tie.Need-same-length-2 Inv-loop μ-loop
 same-length-2 c = search (needs, laws)
@@ -68,7 +68,7 @@ same-length-2 c = search (needs, laws)
 returns-2 : tie.Need-returns-2 Inv-loop μ-loop
 returns-2 c =
     let t = c .before .before .before in
-    all-yielded (t .before .before .pre) (t .store .ensures) (done (c .before .loop .inv) (c .loop-test .left))
+    all-yielded _ (t .before .before .pre) (t .store .ensures) (done (c .before .loop .inv) (c .loop-test .left))
 
 pub stretch-deps-spec : {M : Type 1} → statement M
 stretch-deps-spec =
@@ -82,7 +82,7 @@ stretch-deps-spec =
     mul-fitted
     add-fitted-2
     fitted-requires
-    put-alone-requires
+    put-yield-requires
     same-length
     returns
     add-i
