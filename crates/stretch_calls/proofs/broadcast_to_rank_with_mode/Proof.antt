@@ -1,5 +1,5 @@
 -- `broadcast_to_rank_with_mode`: what is judged, the step in the first part of the working buffer, and the end of the call.
-use mathlib.Core.Bool.{Bool, _||_}
+use mathlib.Core.Bool.{Bool, true, _||_}
 use mathlib.Core.Path.{_≡_, ap, _∙_}
 use Prim.Native.Nat.{_≤_}
 use native.Mathlib.Omega.{arith}
@@ -85,7 +85,7 @@ few c =
 
 -- where the mode is judged
 named : (c : tie.After-judge-mode) → ModeIs (start (signed (c .before) .before) .args .mode) (c .judge-mode .result)
-named c = mode-handed _ _ (start (signed (c .before) .before) .fits .mode) (c .judge-mode .ensures)
+named c = mode-handed _ (c .judge-mode .result) (start (signed (c .before) .before) .fits .mode) (c .judge-mode .ensures)
 
 -- where it is known
 abbrev ranked : tie.After-known-told4 → tie.After-known-told3

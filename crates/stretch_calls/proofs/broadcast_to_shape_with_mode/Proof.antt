@@ -61,7 +61,7 @@ good c = judged-shape (overRecord (now (start (c .before .before) .args .«recor
 
 -- where the mode is judged
 named : (c : tie.After-judge-mode) → ModeIs (start (c .before .before .before) .args .mode) (c .judge-mode .result)
-named c = mode-handed _ _ (start (c .before .before .before) .fits .mode) (c .judge-mode .ensures)
+named c = mode-handed _ (c .judge-mode .result) (start (c .before .before .before) .fits .mode) (c .judge-mode .ensures)
 
 -- where it is known
 abbrev fine : tie.After-known-told3 → tie.Else1

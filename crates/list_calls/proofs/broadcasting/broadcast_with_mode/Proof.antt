@@ -53,7 +53,7 @@ sounded c = c .before .before
 
 -- where the mode is judged
 named : (c : tie.After-judge-mode) → ModeIs (startOf (sounded c .before) .args .mode) (c .judge-mode .result)
-named c = mode-handed _ _ (startOf (sounded c .before) .fits .mode) (c .judge-mode .ensures)
+named c = mode-handed _ (c .judge-mode .result) (startOf (sounded c .before) .fits .mode) (c .judge-mode .ensures)
 
 -- where it is known
 abbrev moded : tie.After-known-told2 → tie.After-judge-mode
