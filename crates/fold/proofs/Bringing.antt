@@ -9,6 +9,7 @@ use lib.IntN.{ℤ}
 use lib.ListN.{length, getD, take, drop, length-map, drop-of-length-le, List·getD-map}
 use lib.Seq.{drop-cons}
 use Rattle.rules.specs.declared.Head.{Head}
+use Rattle.rules.specs.declared.Mode.{Mode}
 use Rattle.rules.specs.declared.Refusal.{Refusal}
 use Rattle.rules.specs.declared.Step.{Step}
 use Rattle.rules.specs.declared.Step.the-variants.{Done, Refused}
@@ -103,28 +104,28 @@ module _ {shape : Shape} {s : List ℤ} (a : StretchAsked shape s) where
 
   module _ {h : Head} (r : SoundRecord h s) {t : Bool} where
     -- a record that has the shape may be stretched to it
-    pub same-told : t ≡ same (layoutIn s .shape) (extentsOf shape) → t ≡ true → given tt ≡ whether (stretching shape s)
-    same-told e f =
+    pub same-told : (mode : Mode) → t ≡ same (layoutIn s .shape) (extentsOf shape) → t ≡ true → given tt ≡ whether (stretching mode shape s)
+    same-told mode e f =
         let is : layoutIn s .shape ≡ extentsOf shape = same-true (sym e ∙ f) in
-        rw (← is, unchanged-given (layout-sound r))
+        rw (← is, unchanged-given mode (layout-sound r))
 
     -- and is loaded where its rows are in order
-    pub loaded-brought : t ≡ same (layoutIn s .shape) (extentsOf shape) && ordered s → t ≡ true → {part : List ℤ} → Loaded s part → Brought (stretchedTo shape s) part
+    pub loaded-brought : (mode : Mode) → t ≡ same (layoutIn s .shape) (extentsOf shape) && ordered s → t ≡ true → {part : List ℤ} → Loaded s part → Brought (stretchedTo mode shape s) part
     unfolding ordered
-    loaded-brought e f l =
+    loaded-brought mode e f l =
         let both = both-true (same (layoutIn s .shape) (extentsOf shape)) (sound s && increasing (layoutIn s .rows)) (sym e ∙ f) in
         let rows = both-true (sound s) (increasing (layoutIn s .rows)) (both .1) in
         let is : layoutIn s .shape ≡ extentsOf shape = same-true (both .0) in
-        record { layout = l .layout ∙ rw (← is) (sym (unchanged-same (layout-sound r) (increasing-true (layoutIn s .rows) (rows .1)))); holds = l .holds }
+        record { layout = l .layout ∙ rw (← is) (sym (unchanged-same mode (layout-sound r) (increasing-true (layoutIn s .rows) (rows .1)))); holds = l .holds }
 
 -- ---- `judge_all`
 
 -- the first i of n layouts may be stretched, and the part is as long as it was
-pub record JudgedTo (shape : List ℕ) (n i : ℕ) (layouts : List Layout) (part₀ part : List ℤ) : Type 0 where
+pub record JudgedTo (mode : Mode) (shape : List ℕ) (n i : ℕ) (layouts : List Layout) (part₀ part : List ℤ) : Type 0 where
   pub same-size : length part ≡ length part₀
   pub upto : i ≤ n
   pub size : length layouts ≡ n
-  pub eq : whether (stretchAll shape layouts) ≡ whether (stretchAll shape (drop i layouts))
+  pub eq : whether (stretchAll mode shape layouts) ≡ whether (stretchAll mode shape (drop i layouts))
 
 whether-cons : (v : Verdict Layout) (w : Verdict (List Layout)) → whether (v then λ first. w then λ others. given (first ∷ others)) ≡ (v then λ _. whether w)
 whether-cons (given x) (given xs) = refl
@@ -147,7 +148,7 @@ module _ {shape : Shape} {n : ℕ} {places : List ℕ} {s : List ℤ} (a : AllAs
   all-length : length all ≡ n
   all-length = length-map (standing n places s) layoutIn ∙ length-standing (a .inside)
 
-  pub judged-start : (part : List ℤ) → JudgedTo (extentsOf shape) n 0 all part part
+  pub judged-start : {mode : Mode} (part : List ℤ) → JudgedTo mode (extentsOf shape) n 0 all part part
   judged-start part = record { same-size = refl; upto = omega arith; size = all-length; eq = refl }
 
   module _ {i : ℕ} (h : i < n) where
@@ -158,62 +159,62 @@ module _ {shape : Shape} {n : ℕ} {places : List ℕ} {s : List ℤ} (a : AllAs
     at-layout : layoutIn (take (length s - getD places i 0) (drop (getD places i 0) s)) ≡ getD all i (layoutIn [])
     at-layout = ap layoutIn (lent-at (a .inside) h) ∙ sym (List·getD-map layoutIn (standing n places s) i [])
 
-    module _ {part₀ part : List ℤ} (p : JudgedTo (extentsOf shape) n i all part₀ part) (step : Step) (e : told step ≡ whether (stretching shape (take (length s - getD places i 0) (drop (getD places i 0) s)))) where
-      next : whether (stretchAll (extentsOf shape) all) ≡ (broadcastToShape (getD all i (layoutIn [])) (extentsOf shape) then λ _. whether (stretchAll (extentsOf shape) (drop (i + 1) all)))
+    module _ {mode : Mode} {part₀ part : List ℤ} (p : JudgedTo mode (extentsOf shape) n i all part₀ part) (step : Step) (e : told step ≡ whether (stretching mode shape (take (length s - getD places i 0) (drop (getD places i 0) s)))) where
+      next : whether (stretchAll mode (extentsOf shape) all) ≡ (broadcastToShape mode (getD all i (layoutIn [])) (extentsOf shape) then λ _. whether (stretchAll mode (extentsOf shape) (drop (i + 1) all)))
       unfolding stretchAll
-      next = let inside : i < length all = omega (arith, p .size) in p .eq ∙ rw (add-one, drop-cons all i (layoutIn []) inside) (whether-cons (broadcastToShape (getD all i (layoutIn [])) (extentsOf shape)) (stretchAll (extentsOf shape) (drop (suc i) all)))
+      next = let inside : i < length all = omega (arith, p .size) in p .eq ∙ rw (add-one, drop-cons all i (layoutIn []) inside) (whether-cons (broadcastToShape mode (getD all i (layoutIn [])) (extentsOf shape)) (stretchAll mode (extentsOf shape) (drop (suc i) all)))
 
-      here : whether (broadcastToShape (getD all i (layoutIn [])) (extentsOf shape)) ≡ told step
+      here : whether (broadcastToShape mode (getD all i (layoutIn [])) (extentsOf shape)) ≡ told step
       here = rw (← at-layout) (sym e)
 
       -- one may be stretched
-      pub judged-turn : {next-part : List ℤ} → step ≡ Done → length next-part ≡ length part → JudgedTo (extentsOf shape) n (i + 1) all part₀ next-part
-      judged-turn f l = record { same-size = l ∙ p .same-size; upto = omega arith; size = p .size; eq = next ∙ told-then (broadcastToShape (getD all i (layoutIn [])) (extentsOf shape)) (whether (stretchAll (extentsOf shape) (drop (i + 1) all))) (here ∙ ap told f) }
+      pub judged-turn : {next-part : List ℤ} → step ≡ Done → length next-part ≡ length part → JudgedTo mode (extentsOf shape) n (i + 1) all part₀ next-part
+      judged-turn f l = record { same-size = l ∙ p .same-size; upto = omega arith; size = p .size; eq = next ∙ told-then (broadcastToShape mode (getD all i (layoutIn [])) (extentsOf shape)) (whether (stretchAll mode (extentsOf shape) (drop (i + 1) all))) (here ∙ ap told f) }
 
       -- one may not
-      pub judged-stop : {why : Refusal} → step ≡ Refused why → told (Refused why) ≡ whether (stretchAll (extentsOf shape) all)
-      judged-stop f = sym (next ∙ told-refused (broadcastToShape (getD all i (layoutIn [])) (extentsOf shape)) (whether (stretchAll (extentsOf shape) (drop (i + 1) all))) (here ∙ ap told f))
+      pub judged-stop : {why : Refusal} → step ≡ Refused why → told (Refused why) ≡ whether (stretchAll mode (extentsOf shape) all)
+      judged-stop f = sym (next ∙ told-refused (broadcastToShape mode (getD all i (layoutIn [])) (extentsOf shape)) (whether (stretchAll mode (extentsOf shape) (drop (i + 1) all))) (here ∙ ap told f))
 
   -- all may
-  pub judged-done : {i : ℕ} {part₀ part : List ℤ} → JudgedTo (extentsOf shape) n i all part₀ part → n ≤ i → told Done ≡ whether (stretchAll (extentsOf shape) all)
+  pub judged-done : {mode : Mode} {i : ℕ} {part₀ part : List ℤ} → JudgedTo mode (extentsOf shape) n i all part₀ part → n ≤ i → told Done ≡ whether (stretchAll mode (extentsOf shape) all)
   unfolding stretchAll
-  judged-done {i} p h = sym (p .eq ∙ rw (drop-of-length-le all {i = i} (omega (arith, p .size))))
+  judged-done {i = i} p h = sym (p .eq ∙ rw (drop-of-length-le all {i = i} (omega (arith, p .size))))
 
 pub ruleset judged-laws = (judged-start, judged-asked, judged-turn, judged-stop, judged-done, place-inside, place-fits)
 
 -- ---- all may be stretched
 
-pub record AllGiven (shape : List ℕ) (layouts : List Layout) : Type 0 where
-  pub all-is : stretchAll shape layouts ≡ given (map (λ l. stretched l shape) layouts)
-  pub each : (d : Layout) (i : ℕ) → i < length layouts → broadcastToShape (getD layouts i d) shape ≡ given (stretched (getD layouts i d) shape)
+pub record AllGiven (mode : Mode) (shape : List ℕ) (layouts : List Layout) : Type 0 where
+  pub all-is : stretchAll mode shape layouts ≡ given (map (λ l. stretched mode l shape) layouts)
+  pub each : (d : Layout) (i : ℕ) → i < length layouts → broadcastToShape mode (getD layouts i d) shape ≡ given (stretched mode (getD layouts i d) shape)
 
-all-given : (shape : List ℕ) (layouts : List Layout) → given tt ≡ whether (stretchAll shape layouts) → AllGiven shape layouts
+all-given : (mode : Mode) (shape : List ℕ) (layouts : List Layout) → given tt ≡ whether (stretchAll mode shape layouts) → AllGiven mode shape layouts
 unfolding stretchAll
-all-given shape [] e = record { all-is = refl; each = λ d i h. absurd (omega arith) }
-all-given shape (l ∷ layouts) e = by (broadcastToShape l shape) refl (all-given shape layouts) (e ∙ whether-cons (broadcastToShape l shape) (stretchAll shape layouts))
+all-given mode shape [] e = record { all-is = refl; each = λ d i h. absurd (omega arith) }
+all-given mode shape (l ∷ layouts) e = by (broadcastToShape mode l shape) refl (all-given mode shape layouts) (e ∙ whether-cons (broadcastToShape mode l shape) (stretchAll mode shape layouts))
   where
-    by : (v : Verdict Layout) → broadcastToShape l shape ≡ v → (given tt ≡ whether (stretchAll shape layouts) → AllGiven shape layouts) →
-        given tt ≡ (v then λ _. whether (stretchAll shape layouts)) → AllGiven shape (l ∷ layouts)
+    by : (v : Verdict Layout) → broadcastToShape mode l shape ≡ v → (given tt ≡ whether (stretchAll mode shape layouts) → AllGiven mode shape layouts) →
+        given tt ≡ (v then λ _. whether (stretchAll mode shape layouts)) → AllGiven mode shape (l ∷ layouts)
     by (given x) f rest g =
         let r = rest g in
-        let first : broadcastToShape l shape ≡ given (stretched l shape) = given-stretched l shape f in
+        let first : broadcastToShape mode l shape ≡ given (stretched mode l shape) = given-stretched mode l shape f in
         record { all-is = rw (first, r .all-is); each = at (r .each) first }
       where
-        at : ((d : Layout) (i : ℕ) → i < length layouts → broadcastToShape (getD layouts i d) shape ≡ given (stretched (getD layouts i d) shape)) →
-            broadcastToShape l shape ≡ given (stretched l shape) →
-            (d : Layout) (i : ℕ) → i < length (l ∷ layouts) → broadcastToShape (getD (l ∷ layouts) i d) shape ≡ given (stretched (getD (l ∷ layouts) i d) shape)
+        at : ((d : Layout) (i : ℕ) → i < length layouts → broadcastToShape mode (getD layouts i d) shape ≡ given (stretched mode (getD layouts i d) shape)) →
+            broadcastToShape mode l shape ≡ given (stretched mode l shape) →
+            (d : Layout) (i : ℕ) → i < length (l ∷ layouts) → broadcastToShape mode (getD (l ∷ layouts) i d) shape ≡ given (stretched mode (getD (l ∷ layouts) i d) shape)
         at r f d zero h = f
         at r f d (suc i) h = r d i (omega arith)
     by (refused n) f rest g = absurd (never (sym g))
 
-module _ {shape : Shape} {n : ℕ} {places : List ℕ} {s : List ℤ} (a : AllAsked shape n places s) (e : told Done ≡ whether (stretchAll (extentsOf shape) (layoutsAt n places s))) where
-  pub all-stretched : stretchAll (extentsOf shape) (layoutsAt n places s) ≡ given (allStretched shape n places s)
-  all-stretched = all-given (extentsOf shape) (layoutsAt n places s) e .all-is
+module _ {shape : Shape} {n : ℕ} {places : List ℕ} {s : List ℤ} (a : AllAsked shape n places s) (mode : Mode) (e : told Done ≡ whether (stretchAll mode (extentsOf shape) (layoutsAt n places s))) where
+  pub all-stretched : stretchAll mode (extentsOf shape) (layoutsAt n places s) ≡ given (allStretched mode shape n places s)
+  all-stretched = all-given mode (extentsOf shape) (layoutsAt n places s) e .all-is
 
-  pub all-bringable : 0 < n → AllBringable shape n places s
+  pub all-bringable : 0 < n → AllBringable mode shape n places s
   all-bringable some = record { some = some; inside = a .inside; each = λ i h. record { asked = record { source = a .each i h; fits = a .fits }; given-is = at i h } }
     where
-      at : (i : ℕ) → i < n → stretching shape (getD (standing n places s) i []) ≡ given (stretchedTo shape (getD (standing n places s) i []))
+      at : (i : ℕ) → i < n → stretching mode shape (getD (standing n places s) i []) ≡ given (stretchedTo mode shape (getD (standing n places s) i []))
       at i h =
           rw (← List·getD-map layoutIn (standing n places s) i [])
-          (all-given (extentsOf shape) (layoutsAt n places s) e .each (layoutIn []) i (rw (all-length a) h))
+          (all-given mode (extentsOf shape) (layoutsAt n places s) e .each (layoutIn []) i (rw (all-length a) h))

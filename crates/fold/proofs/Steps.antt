@@ -10,6 +10,7 @@ use lib.ListN.{length, getD, take, drop, length-map, List·getD-map}
 use lib.Seq.{take-suc, take-all}
 use mir.Syntax.{w64}
 use mir.Val.{Fits}
+use Rattle.rules.specs.declared.Mode.{Mode}
 use Rattle.rules.specs.declared.Refusal.{Refusal}
 use Rattle.rules.specs.declared.Refusal.the-variants.{SparseDivisor}
 use Rattle.rules.specs.declared.Rule.{Rule}
@@ -128,19 +129,19 @@ move-apart = inr (omega arith)
 -- ---- `bring_left` and `fold_onto`
 
 -- what is lent behind a place is all that stands there
-pub lent-behind : {shape : Shape} (s : List ℤ) (at : ℕ) → BringAsked shape (drop at s) → BringAsked shape (take (length s - at) (drop at s))
+pub lent-behind : {mode : Mode} {shape : Shape} (s : List ℤ) (at : ℕ) → BringAsked mode shape (drop at s) → BringAsked mode shape (take (length s - at) (drop at s))
 lent-behind s at b = rw (to-end at s) b
 
 -- stretched rows are in order
-stretched-order : (l : Layout) (shape : List ℕ) → increasing (stretched l shape .rows) ≡ true
+stretched-order : (mode : Mode) (l : Layout) (shape : List ℕ) → increasing (stretched mode l shape .rows) ≡ true
 unfolding stretched
-stretched-order l shape = true-increasing (stretch-increasing l shape)
+stretched-order mode l shape = true-increasing (stretch-increasing l shape)
 
-module _ (shape : Shape) (s : List ℤ) (at : ℕ) (window : List ℤ) (long : windowSize ≤ length window) where
+module _ (mode : Mode) (shape : Shape) (s : List ℤ) (at : ℕ) (window : List ℤ) (long : windowSize ≤ length window) where
   abbrev brought : Layout
-  brought = stretchedTo shape (drop at s)
+  brought = stretchedTo mode shape (drop at s)
 
-  module _ {x : List ℤ} (b : Brought (stretchedTo shape (take (length s - at) (drop at s))) x) where
+  module _ {x : List ℤ} (b : Brought (stretchedTo mode shape (take (length s - at) (drop at s))) x) where
     layout-is : layoutAt 0 x ≡ brought
     layout-is = rw (to-end at s) at (b .layout)
 
@@ -149,7 +150,7 @@ module _ (shape : Shape) (s : List ℤ) (at : ℕ) (window : List ℤ) (long : w
       layout = is;
       ready = record {
         holds = back-holds left right window (omega arith) (omega arith) x same 0 left refl (omega arith) (b .holds);
-        ordered = rw is (stretched-order (layoutIn (drop at s)) (extentsOf shape));
+        ordered = rw is (stretched-order mode (layoutIn (drop at s)) (extentsOf shape));
         room = rw (back-only left right window (omega arith) (omega arith) x same .size) long;
       };
     }
@@ -178,7 +179,7 @@ module _ (shape : Shape) (s : List ℤ) (at : ℕ) (window : List ℤ) (long : w
           room = rw (only .size) long;
         };
         left-ordered = rw left-stays (ready .ordered);
-        right-ordered = rw right-is (stretched-order (layoutIn (drop at s)) (extentsOf shape));
+        right-ordered = rw right-is (stretched-order mode (layoutIn (drop at s)) (extentsOf shape));
       }
 
       pub onto-folded : (first : Bool) (rule : Rule) {t : List ℤ} {step : Step} → Folded (foldOne first rule (layoutAt left both) (layoutAt right both)) t step →
@@ -192,19 +193,19 @@ reverse-take : (l : List Layout) (k : ℕ) (d : Layout) → k < length l → rev
 reverse-take l k d h = rw (take-suc l k d h) (reverse-append (take k l) (getD l k d ∷ []))
 
 -- all but the first k layouts are folded
-pub record FoldedTo (shape : Shape) (rule : Rule) (n : ℕ) (places : List ℕ) (s : List ℤ) (size : ℕ) (first : Bool) (k : ℕ) (window : List ℤ) : Type 0 where
-  pub asked : AllBringable shape n places s
+pub record FoldedTo (mode : Mode) (shape : Shape) (rule : Rule) (n : ℕ) (places : List ℕ) (s : List ℤ) (size : ℕ) (first : Bool) (k : ℕ) (window : List ℤ) : Type 0 where
+  pub asked : AllBringable mode shape n places s
   pub upto : k < n
   pub ready : LeftReady window
   pub same-size : length window ≡ size
-  pub eq : foldBack rule (reverse (allStretched shape n places s)) ≡ foldFrom first rule (layoutAt left window) (reverse (take k (allStretched shape n places s)))
+  pub eq : foldBack rule (reverse (allStretched mode shape n places s)) ≡ foldFrom first rule (layoutAt left window) (reverse (take k (allStretched mode shape n places s)))
 
-module _ {shape : Shape} {n : ℕ} {places : List ℕ} {s : List ℤ} (a : AllBringable shape n places s) where
+module _ {mode : Mode} {shape : Shape} {n : ℕ} {places : List ℕ} {s : List ℤ} (a : AllBringable mode shape n places s) where
   abbrev layouts : List Layout
-  layouts = allStretched shape n places s
+  layouts = allStretched mode shape n places s
 
   layouts-length : length layouts ≡ n
-  layouts-length = length-map (layoutsAt n places s) (λ l. stretched l (extentsOf shape)) ∙ length-map (standing n places s) layoutIn ∙ length-standing (a .inside)
+  layouts-length = length-map (layoutsAt n places s) (λ l. stretched mode l (extentsOf shape)) ∙ length-map (standing n places s) layoutIn ∙ length-standing (a .inside)
 
   module _ {i : ℕ} (h : i < n) where
     pub place-few : i < 16
@@ -213,20 +214,20 @@ module _ {shape : Shape} {n : ℕ} {places : List ℕ} {s : List ℤ} (a : AllBr
     pub place-small : Fits w64 (i * 8)
     place-small = record { fits = omega (arith, a .inside .few) }
 
-    pub bring-there : (getD places i 0 ≤ length s) × BringAsked shape (drop (getD places i 0) s)
+    pub bring-there : (getD places i 0 ≤ length s) × BringAsked mode shape (drop (getD places i 0) s)
     bring-there = (a .inside .each i h, rw (standing-at (a .inside) h) at (a .each i h))
 
-    there : getD layouts i (stretched (layoutIn []) (extentsOf shape)) ≡ stretchedTo shape (drop (getD places i 0) s)
+    there : getD layouts i (stretched mode (layoutIn []) (extentsOf shape)) ≡ stretchedTo mode shape (drop (getD places i 0) s)
     there =
-        List·getD-map (λ l. stretched l (extentsOf shape)) (layoutsAt n places s) i (layoutIn [])
-        ∙ ap (λ (l : Layout). stretched l (extentsOf shape)) (List·getD-map layoutIn (standing n places s) i [] ∙ ap layoutIn (standing-at (a .inside) h))
+        List·getD-map (λ l. stretched mode l (extentsOf shape)) (layoutsAt n places s) i (layoutIn [])
+        ∙ ap (λ (l : Layout). stretched mode l (extentsOf shape)) (List·getD-map layoutIn (standing n places s) i [] ∙ ap layoutIn (standing-at (a .inside) h))
 
-    next : reverse (take (suc i) layouts) ≡ stretchedTo shape (drop (getD places i 0) s) ∷ reverse (take i layouts)
-    next = reverse-take layouts i (stretched (layoutIn []) (extentsOf shape)) (rw layouts-length h) ∙ ap (λ (l : Layout). l ∷ reverse (take i layouts)) there
+    next : reverse (take (suc i) layouts) ≡ stretchedTo mode shape (drop (getD places i 0) s) ∷ reverse (take i layouts)
+    next = reverse-take layouts i (stretched mode (layoutIn []) (extentsOf shape)) (rw layouts-length h) ∙ ap (λ (l : Layout). l ∷ reverse (take i layouts)) there
 
   -- the last one stands in the left part
-  pub fold-start : {rule : Rule} {window : List ℤ} {size : ℕ} → LeftIs (stretchedTo shape (drop (getD places (n - 1) 0) s)) window → length window ≡ size →
-      FoldedTo shape rule n places s size true (n - 1) window
+  pub fold-start : {rule : Rule} {window : List ℤ} {size : ℕ} → LeftIs (stretchedTo mode shape (drop (getD places (n - 1) 0) s)) window → length window ≡ size →
+      FoldedTo mode shape rule n places s size true (n - 1) window
   fold-start {rule} {window} l e =
       let i : n - 1 < n = omega (arith, a .some) in
       let whole : suc (n - 1) ≡ n = omega (arith, a .some) in
@@ -235,31 +236,31 @@ module _ {shape : Shape} {n : ℕ} {places : List ℕ} {s : List ℤ} (a : AllBr
       let is : reverse layouts ≡ layoutAt left window ∷ reverse (take (n - 1) layouts) = rw (l .layout) (ends ∙ next i) in
       record { asked = a; upto = i; ready = l .ready; same-size = e; eq = rw is (fold-back rule (layoutAt left window) (reverse (take (n - 1) layouts))) }
 
-module _ {shape : Shape} {rule : Rule} {n : ℕ} {places : List ℕ} {s : List ℤ} {size : ℕ} {first : Bool} {k : ℕ} {window : List ℤ} (p : FoldedTo shape rule n places s size first k window) where
+module _ {mode : Mode} {shape : Shape} {rule : Rule} {n : ℕ} {places : List ℕ} {s : List ℤ} {size : ℕ} {first : Bool} {k : ℕ} {window : List ℤ} (p : FoldedTo mode shape rule n places s size first k window) where
   module _ (h : 0 < k) where
     below : k - 1 < n
     below = omega (arith, p .upto)
 
-    module _ {t : List ℤ} {step : Step} (f : Folded (foldOne first rule (layoutAt left window) (stretchedTo shape (drop (getD places (k - 1) 0) s))) t step) where
-      goes-on : foldBack rule (reverse (allStretched shape n places s)) ≡
-          (foldOne first rule (layoutAt left window) (stretchedTo shape (drop (getD places (k - 1) 0) s)) then λ both. foldFrom false rule both (reverse (take (k - 1) (allStretched shape n places s))))
+    module _ {t : List ℤ} {step : Step} (f : Folded (foldOne first rule (layoutAt left window) (stretchedTo mode shape (drop (getD places (k - 1) 0) s))) t step) where
+      goes-on : foldBack rule (reverse (allStretched mode shape n places s)) ≡
+          (foldOne first rule (layoutAt left window) (stretchedTo mode shape (drop (getD places (k - 1) 0) s)) then λ both. foldFrom false rule both (reverse (take (k - 1) (allStretched mode shape n places s))))
       unfolding foldFrom
       goes-on =
           let one : suc (k - 1) ≡ k = omega arith in
           p .eq
-          ∙ ap (λ (m : ℕ). foldFrom first rule (layoutAt left window) (reverse (take m (allStretched shape n places s)))) (sym one)
+          ∙ ap (λ (m : ℕ). foldFrom first rule (layoutAt left window) (reverse (take m (allStretched mode shape n places s)))) (sym one)
           ∙ ap (foldFrom first rule (layoutAt left window)) (next (p .asked) below)
 
       -- one fold is refused
-      pub fold-stop : {why : Refusal} → step ≡ Refused why → Says (foldBack rule (reverse (allStretched shape n places s))) left t (Refused why)
+      pub fold-stop : {why : Refusal} → step ≡ Refused why → Says (foldBack rule (reverse (allStretched mode shape n places s))) left t (Refused why)
       fold-stop {why} e = says-refused why left t (goes-on ∙ rw (refused-said (f .says) e))
 
       -- one is done
-      pub fold-turn : step ≡ Done → length t ≡ size → FoldedTo shape rule n places s size false (k - 1) t
+      pub fold-turn : step ≡ Done → length t ≡ size → FoldedTo mode shape rule n places s size false (k - 1) t
       fold-turn e l = record { asked = p .asked; upto = below; ready = f .ready e; same-size = l; eq = goes-on ∙ rw (done-said (f .says) e) }
 
   -- all are done
-  pub fold-done : k ≤ 0 → Says (foldBack rule (reverse (allStretched shape n places s))) left window Done
+  pub fold-done : k ≤ 0 → Says (foldBack rule (reverse (allStretched mode shape n places s))) left window Done
   unfolding foldFrom
   fold-done h =
       let none : k ≡ 0 = omega arith in

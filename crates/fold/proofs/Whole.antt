@@ -8,6 +8,7 @@ use borrow.Author.Tests.{leb-true}
 use lib.IntN.{ℤ, pos}
 use lib.ListN.{length, take, drop, replicate, length-map}
 use lib.Seq.{take-at}
+use Rattle.rules.specs.declared.Mode.{Mode}
 use Rattle.rules.specs.declared.Number.the-variants.{Is, Refused as NoNumber}
 use Rattle.rules.specs.declared.Refusal.{Refusal}
 use Rattle.rules.specs.declared.Rule.{Rule}
@@ -48,29 +49,29 @@ whether-refused : {A : Type 0} (v : Verdict A) {n : ℕ} → refused n ≡ wheth
 whether-refused (given a) e = absurd (never e)
 whether-refused (refused m) {n} e = let same : m ≡ n = cc in ap refused same
 
-module _ {shape : Shape} {n : ℕ} {places : List ℕ} {s : List ℤ} (a : AllAsked shape n places s) (rule : Rule) (step : Step)
-    (e : told step ≡ whether (stretchAll (extentsOf shape) (layoutsAt n places s))) where
+module _ {shape : Shape} {n : ℕ} {places : List ℕ} {s : List ℤ} (a : AllAsked shape n places s) (mode : Mode) (rule : Rule) (step : Step)
+    (e : told step ≡ whether (stretchAll mode (extentsOf shape) (layoutsAt n places s))) where
   abbrev whole : Verdict Layout
-  whole = broadcastTo (extentsOf shape) (layoutsAt n places s) rule
+  whole = broadcastTo mode (extentsOf shape) (layoutsAt n places s) rule
 
   -- a stretching is refused
   pub stretching-stops : {why : Refusal} → step ≡ Refused why → (w : List ℤ) → Says whole left w (Refused why)
   unfolding broadcastTo
   stretching-stops {why} f w =
-      says-refused why left w (rw (whether-refused (stretchAll (extentsOf shape) (layoutsAt n places s)) (sym (ap told f) ∙ e)))
+      says-refused why left w (rw (whether-refused (stretchAll mode (extentsOf shape) (layoutsAt n places s)) (sym (ap told f) ∙ e)))
 
   module _ (f : step ≡ Done) where
-    all-told : told Done ≡ whether (stretchAll (extentsOf shape) (layoutsAt n places s))
+    all-told : told Done ≡ whether (stretchAll mode (extentsOf shape) (layoutsAt n places s))
     all-told = sym (ap told f) ∙ e
 
-    pub ask-folds : 0 < n → AllBringable shape n places s
-    ask-folds some = all-bringable a all-told some
+    pub ask-folds : 0 < n → AllBringable mode shape n places s
+    ask-folds some = all-bringable a mode all-told some
 
-    folds : whole ≡ (foldBack rule (reverse (allStretched shape n places s)) then λ l. endOfBroadcast l)
+    folds : whole ≡ (foldBack rule (reverse (allStretched mode shape n places s)) then λ l. endOfBroadcast l)
     unfolding broadcastTo
-    folds = rw (all-stretched a all-told)
+    folds = rw (all-stretched a mode all-told)
 
-    module _ {w : List ℤ} {fold : Step} (d : Says (foldBack rule (reverse (allStretched shape n places s))) left w fold) where
+    module _ {w : List ℤ} {fold : Step} (d : Says (foldBack rule (reverse (allStretched mode shape n places s))) left w fold) where
       -- a fold is refused
       pub fold-stops : {why : Refusal} → fold ≡ Refused why → Says whole left w (Refused why)
       fold-stops {why} g = says-refused why left w (folds ∙ rw (refused-said d g))
@@ -127,9 +128,9 @@ unfolding part
 extents-by shape m four l p e f h =
     rw (p .rank-is, p .extents-are, e, view-pos (fitTo 4 0 l), f) (fit-front l (omega arith))
 
-module _ {n : ℕ} {places : List ℕ} {s : List ℤ} (k : EachAt JudgedRecord n places s) (rule : Rule) {r : Tuple} (t : TupleIs (commonOf n places s) r) where
+module _ {n : ℕ} {places : List ℕ} {s : List ℤ} (k : EachAt JudgedRecord n places s) (mode : Mode) (rule : Rule) {r : Tuple} (t : TupleIs (commonOf n places s) r) where
   abbrev all : Verdict Layout
-  all = broadcast (layoutsAt n places s) rule
+  all = broadcast mode (layoutsAt n places s) rule
 
   -- there is no common shape
   pub common-stops : {why : Refusal} → r .count ≡ NoNumber why → (w : List ℤ) → Says all left w (Refused why)
@@ -163,6 +164,6 @@ module _ {n : ℕ} {places : List ℕ} {s : List ℤ} (k : EachAt JudgedRecord n
           fits : ShapeFits shape
           fits = record { extents = record { room = omega (arith, p .rank-is, few m e .0, size); within = rw extents-are within }; few = omega (arith, p .rank-is, few m e .0) }
 
-      pub whole-said : {w : List ℤ} {step : Step} → Says (broadcastTo (extentsOf shape) (layoutsAt n places s) rule) left w step → Says all left w step
+      pub whole-said : {w : List ℤ} {step : Step} → Says (broadcastTo mode (extentsOf shape) (layoutsAt n places s) rule) left w step → Says all left w step
       unfolding broadcast broadcastTo
       whole-said d = rw (common .1, ← extents-are) d

@@ -27,7 +27,7 @@ same-length c = search needs
 returns : tie.Need-returns
 returns c = let judged = c .before .before .before .before in
     let start = judged .before .before in
-    stretching-stops (start .pre .0 .0) (start .args .rule) _ (judged .judge-all .ensures) (c .before .why .given .1) _
+    stretching-stops (start .pre .0 .0) (start .args .mode) (start .args .rule) _ (judged .judge-all .ensures) (c .before .why .given .1) _
 
 enum-told : tie.Need-enum-told
 enum-told c = search needs
@@ -36,7 +36,7 @@ fold-all-requires : tie.Need-fold-all-requires
 fold-all-requires c κs = let told = c .before in
     let judged = told .before .before .before in
     let start = judged .before .before in
-    (ask-folds (start .pre .0 .0) (start .args .rule) _ (judged .judge-all .ensures) (told .enum-told .given .1) (start .pre .0 .1), omega (arith, told .before .before .window .given .1, start .pre .1))
+    (ask-folds (start .pre .0 .0) (start .args .mode) (start .args .rule) _ (judged .judge-all .ensures) (told .enum-told .given .1) (start .pre .0 .1), omega (arith, told .before .before .window .given .1, start .pre .1))
 
 enum-known-why-2 : tie.Need-enum-known-why-2
 enum-known-why-2 c = search needs
@@ -49,7 +49,7 @@ returns-2 c = let folded = c .before .before .before .before in
     let told = folded .before .before in
     let judged = told .before .before .before in
     let start = judged .before .before in
-    fold-stops (start .pre .0 .0) (start .args .rule) _ (judged .judge-all .ensures) (told .enum-told .given .1) (folded .fold-all .ensures) (c .before .why2 .given .1)
+    fold-stops (start .pre .0 .0) (start .args .mode) (start .args .rule) _ (judged .judge-all .ensures) (told .enum-told .given .1) (folded .fold-all .ensures) (c .before .why2 .given .1)
 
 enum-told-2 : tie.Need-enum-told-2
 enum-told-2 c = search needs
@@ -69,7 +69,7 @@ end-requires c κs = let done = c .before in
     let told = folded .before .before in
     let judged = told .before .before .before in
     let start = judged .before .before in
-    ask-end (start .pre .0 .0) (start .args .rule) _ (judged .judge-all .ensures) (told .enum-told .given .1) (folded .fold-all .ensures) (done .enum-told2 .given .1)
+    ask-end (start .pre .0 .0) (start .args .mode) (start .args .rule) _ (judged .judge-all .ensures) (told .enum-told .given .1) (folded .fold-all .ensures) (done .enum-told2 .given .1)
 
 same-length-3 : tie.Need-same-length-3
 same-length-3 c = search needs
@@ -81,7 +81,7 @@ returns-3 c = let ended = c .before in
     let told = folded .before .before in
     let judged = told .before .before .before in
     let start = judged .before .before in
-    whole-ended (start .pre .0 .0) (start .args .rule) _ (judged .judge-all .ensures) (told .enum-told .given .1) (folded .fold-all .ensures) (done .enum-told2 .given .1) (c .window3 .given .0) (ended .end .ensures)
+    whole-ended (start .pre .0 .0) (start .args .mode) (start .args .rule) _ (judged .judge-all .ensures) (told .enum-told .given .1) (folded .fold-all .ensures) (done .enum-told2 .given .1) (c .window3 .given .0) (ended .end .ensures)
 
 pub stretch-and-fold-spec : {M : Type 1} → statement M
 stretch-and-fold-spec =

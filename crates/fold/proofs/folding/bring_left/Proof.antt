@@ -39,7 +39,7 @@ same-length c = search needs
 returns : tie.Need-returns
 returns c = let back = c .before in
     let start = back .before .before .before in
-    left-brought (start .args .shape) (now (start .args .layouts)) (start .args .at) (now (start .args .window)) (start .pre .1) (back .bring .ensures) (c .window .given .0)
+    left-brought (start .args .mode) (start .args .shape) (now (start .args .layouts)) (start .args .at) (now (start .args .window)) (start .pre .1) (back .bring .ensures) (c .window .given .0)
 
 pub bring-left-spec : {M : Type 1} → statement M
 bring-left-spec =

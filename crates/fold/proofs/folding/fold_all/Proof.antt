@@ -8,10 +8,10 @@ use Rattle.fold.proofs.folding.fold_all.Statement.{statement}
 use Rattle.fold.proofs.folding.fold_all.Tie as tie
 
 abbrev Inv-loop : tie.InvT-loop
-Inv-loop layouts n shape rule window₀ places k₀ first₀ window k first = FoldedTo shape rule n places layouts (length window₀) first k window
+Inv-loop mode layouts n shape rule window₀ places k₀ first₀ window k first = FoldedTo mode shape rule n places layouts (length window₀) first k window
 
 abbrev μ-loop : tie.MeasureT-loop
-μ-loop layouts n shape rule window₀ places k₀ first₀ window k first = k
+μ-loop mode layouts n shape rule window₀ places k₀ first₀ window k first = k
 
 sub-k : tie.Need-sub-k Inv-loop μ-loop
 sub-k c = omega (arith, c .pre .0 .some)

@@ -37,7 +37,7 @@ fold-next-requires : tie.Need-fold-next-requires
 fold-next-requires c κs = let w = c .before in
     let back = w .before in
     let start = back .before .before .before in
-    window-ordered (start .args .shape) (now (start .args .layouts)) (start .args .at) (now (start .args .window)) (start .pre .1 .room) (back .bring .ensures) (start .pre .1) (w .window .given .0)
+    window-ordered (start .args .mode) (start .args .shape) (now (start .args .layouts)) (start .args .at) (now (start .args .window)) (start .pre .1 .room) (back .bring .ensures) (start .pre .1) (w .window .given .0)
 
 same-length : tie.Need-same-length
 same-length c = search needs
@@ -47,7 +47,7 @@ returns c = let folded = c .before in
     let w = folded .before .before in
     let back = w .before in
     let start = back .before .before .before in
-    onto-folded (start .args .shape) (now (start .args .layouts)) (start .args .at) (now (start .args .window)) (start .pre .1 .room) (back .bring .ensures) (start .pre .1) (w .window .given .0) (start .args .first) (start .args .rule) (folded .fold-next .ensures)
+    onto-folded (start .args .mode) (start .args .shape) (now (start .args .layouts)) (start .args .at) (now (start .args .window)) (start .pre .1 .room) (back .bring .ensures) (start .pre .1) (w .window .given .0) (start .args .first) (start .args .rule) (folded .fold-next .ensures)
 
 pub fold-onto-spec : {M : Type 1} → statement M
 fold-onto-spec =

@@ -39,7 +39,7 @@ same-length c = search needs
 returns-2 : tie.Need-returns-2
 returns-2 c = let tested = c .before .before .before in
     let known = tested .before .before in
-    loaded-brought (known .before .before .before .before .pre .0 .asked) (head known) (tested .before .is-unchanged .ensures) (tested .if1 .taken) (c .before .load .ensures)
+    loaded-brought (known .before .before .before .before .pre .0 .asked) (head known) _ (tested .before .is-unchanged .ensures) (tested .if1 .taken) (c .before .load .ensures)
 
 slice-aggregate-stretch-into : tie.Need-slice-aggregate-stretch-into
 slice-aggregate-stretch-into c = search needs

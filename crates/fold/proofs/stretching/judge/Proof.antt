@@ -31,7 +31,7 @@ has-shape-requires c κs = (head c, c .before .before .before .before .pre .0 .f
 
 returns-2 : tie.Need-returns-2
 returns-2 c = let known = c .before .before in
-    same-told (known .before .before .before .before .pre .0) (head known) (c .before .has-shape .ensures) (c .if1 .taken)
+    same-told (known .before .before .before .before .pre .0) (head known) _ (c .before .has-shape .ensures) (c .if1 .taken)
 
 slice-aggregate-stretch-into : tie.Need-slice-aggregate-stretch-into
 slice-aggregate-stretch-into c = search needs

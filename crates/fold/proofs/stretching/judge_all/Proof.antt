@@ -8,10 +8,10 @@ use Rattle.fold.proofs.stretching.judge_all.Statement.{statement}
 use Rattle.fold.proofs.stretching.judge_all.Tie as tie
 
 abbrev Inv-loop : tie.InvT-loop
-Inv-loop layouts n shape part₀ places i₀ part i = JudgedTo (extentsOf shape) n i (layoutsAt n places layouts) part₀ part
+Inv-loop mode layouts n shape part₀ places i₀ part i = JudgedTo mode (extentsOf shape) n i (layoutsAt n places layouts) part₀ part
 
 abbrev μ-loop : tie.MeasureT-loop
-μ-loop layouts n shape part₀ places i₀ part i = n - i
+μ-loop mode layouts n shape part₀ places i₀ part i = n - i
 
 loop-holds : tie.Need-loop-holds Inv-loop μ-loop
 loop-holds c = search (needs, judged-laws)
