@@ -6,10 +6,10 @@ pub mod Values
 pub mod Yields
 pub mod Clearing
 pub mod Depending
-pub mod Within
-pub mod Together
 pub mod Plus
 pub mod Combinations
+pub mod Within
+pub mod Together
 pub mod Moves
 pub mod ListedRows
 pub mod Bending
