@@ -125,7 +125,7 @@ enum-told-2 : tie.Need-enum-told-2
 enum-told-2 c = search needs
 
 refuse-requires-2 : tie.Need-refuse-requires-2
-refuse-requires-2 c κs = kept (sounded (c .before .before) .before) .work-long
+refuse-requires-2 c κs = kept (sounded (c .before .before .before) .before) .work-long
 
 same-length-2 : tie.Need-same-length-2
 same-length-2 c = search needs
