@@ -95,6 +95,7 @@ pub mod Agreeing
 pub mod Giving
 pub mod Unchanged
 pub mod Folding
+pub mod StretchedTogether
 pub mod StretchedModes
 pub mod BroadcastEnds
 pub mod BroadcastHolds

@@ -1,21 +1,22 @@
 -- 14 is never given: no dense layout is handed to removal. Assumes nothing.
-use mathlib.Core.Path.{_≡_}
+use mathlib.Core.Path.{_≡_, _∙_}
 use mathlib.Core.Bool.{not, _&&_, _||_}
 use mathlib.Core.List.{List, [], _∷_, map}
 use Prim.Native.Nat.{ℕ}
 use native.Mathlib.Omega.{arith}
-use lib.IntN.{ℤ}
-use Rattle.rules.specs.declared.Mode.the-variants.{Alone}
+use lib.IntN.{ℤ, pos}
 use Rattle.rules.specs.Lists.{all, any}
 use Rattle.rules.specs.Refusals.{Verdict, given, refused, _then_, Reason, _when_, lowest}
 use Rattle.rules.specs.Layout.{Layout}
 use Rattle.rules.specs.Record.{layoutIn, recordsIn, sound, ordered}
-use Rattle.rules.specs.Arguments.{overCount, overRecord, shortResult, shortWork}
+use Rattle.rules.specs.Arguments.{overCount, overRecord, shortResult, shortWork, goodMode}
 use Rattle.rules.specs.Union.{union, unionCall}
 use Rattle.rules.specs.Intersect.{intersect, intersectCall}
-use Rattle.rules.specs.Broadcast.{ruleOf, broadcastCall}
+use Rattle.rules.specs.Stretching.{modeOf}
+use Rattle.rules.specs.Broadcast.{ruleOf, broadcastCall, broadcastWithModeCall}
 use Rattle.rules.proofs.Refusing.{Refusing, Reasons}
 use Rattle.rules.proofs.RefusedWith.{refusing-step, union-refusing, intersect-refusing}
+use Rattle.rules.proofs.StretchedModes.{default-broadcast}
 use Rattle.rules.proofs.BroadcastRefused.{broadcast-refusing}
 
 -- a number other than 14
@@ -66,12 +67,17 @@ module _ (s t : List ℤ) (result work : ℕ) where
       ∷ 3 when not (sound s && sound t) ∷ 4 when not (ordered s && ordered t) ∷ [])
       (omega arith) _ (never-intersect (layoutIn s) (layoutIn t))
 
--- on any list, count, operator and sizes the call of `broadcast` is not refused with 14
-pub broadcast-call-never-14 : (s : List ℤ) (count : ℤ) (operator result work : ℕ) → broadcastCall s count operator result work ≡ refused 14 → ⊥
-unfolding broadcastCall
-broadcast-call-never-14 s count operator result work =
+-- on any list, count, operator, mode and sizes the call of `broadcast_with_mode` is not refused with 14
+pub broadcast-with-mode-call-never-14 : (s : List ℤ) (count : ℤ) (operator : ℕ) (mode : ℤ) (result work : ℕ) → broadcastWithModeCall s count operator mode result work ≡ refused 14 → ⊥
+unfolding broadcastWithModeCall
+broadcast-with-mode-call-never-14 s count operator mode result work =
     never-call
     (1 when (overCount count || any overRecord (recordsIn count s)) ∷ 2 when (shortResult result || shortWork work)
-    ∷ 3 when not (all sound (recordsIn count s)) ∷ [])
+    ∷ 3 when not (all sound (recordsIn count s)) ∷ 5 when not (goodMode mode) ∷ [])
     (omega arith) _
-    (broadcast-refusing Not14 (omega arith) (omega arith) (omega arith) (omega arith) (omega arith) Alone (map layoutIn (recordsIn count s)) (ruleOf operator))
+    (broadcast-refusing Not14 (omega arith) (omega arith) (omega arith) (omega arith) (omega arith) (modeOf mode) (map layoutIn (recordsIn count s)) (ruleOf operator))
+
+-- nor is that of `broadcast`
+pub broadcast-call-never-14 : (s : List ℤ) (count : ℤ) (operator result work : ℕ) → broadcastCall s count operator result work ≡ refused 14 → ⊥
+broadcast-call-never-14 s count operator result work e =
+    broadcast-with-mode-call-never-14 s count operator (pos 0) result work (default-broadcast s result work count operator ∙ e)

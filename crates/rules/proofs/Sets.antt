@@ -88,6 +88,10 @@ module _ {P : List ℕ → Type 0} where
   pub each-right : (a b : List (List ℕ)) → Each P (a ++ b) → Each P b
   each-right a b f r m = f r (Memᴰ·append-right a m)
 
+-- P holds of every row of one row alone where it does of that
+pub each-one : (P : List ℕ → Type 0) {x : List ℕ} → P x → Each P (x ∷ [])
+each-one P h = each-cons h (each-nil P)
+
 -- every row of a is one of b
 abbrev pub Subset : List (List ℕ) → List (List ℕ) → Type 0
 Subset a b = Each (λ r. In r b) a

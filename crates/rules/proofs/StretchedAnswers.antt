@@ -15,7 +15,7 @@ use Rattle.rules.specs.Refusals.{refused, lowest}
 use Rattle.rules.specs.Layout.{Layout, rank, width, isDiagonal, nonzeroProduct, alike}
 use Rattle.rules.specs.Soundness.{NumbersBelow, DepsLow, WellFormed, Sound}
 use Rattle.rules.specs.Dependencies.{onIndex}
-use Rattle.rules.specs.Stretching.{sharedAxesFit, stretchedAxes, yields, stretchDeps, stretched, broadcastToShape}
+use Rattle.rules.specs.Stretching.{sharedAxesFit, stretchedAxes, fittedYields, stretchDeps, stretched, broadcastToShape}
 use Rattle.rules.proofs.Order.{ComparedNumbers, under, even, above, compareNumbers}
 use Rattle.rules.proofs.Few.{few-increasing, few-each}
 use Rattle.rules.proofs.Extents.{extent-nonzero}
@@ -47,27 +47,23 @@ module _ (mode : Mode) (old shape : List ℕ) (most : nonzeroProduct shape ≤ p
   extent-most : (axis : ℕ) → getD shape axis 0 ≤ productLimit
   extent-most axis = le-trans (extent-nonzero shape axis 0 (omega arith)) most
 
-  -- what a dependency yields, fitted to the new rank
-  abbrev given-by : List ℕ → List (List ℕ)
-  given-by d = yields mode shape (stretchedAxes old shape) (onIndex (fitTo (length shape) 0) d)
-
   -- stretched dependencies are of the new rank
   pub stretched-of-rank : {n : ℕ} {deps : List (List ℕ)} → DepsOfRank n deps → DepsOfRank (length shape) (stretchDeps mode old shape deps)
   unfolding stretchDeps
-  stretched-of-rank {n} {deps} p = record { each = few-each (gather-each given-by (λ d m. of-rank d (p .each d m))); increase = few-increasing _ }
+  stretched-of-rank {n} {deps} p = record { each = few-each (gather-each (fittedYields mode old shape) (λ d m. of-rank d (p .each d m))); increase = few-increasing _ }
     where
-      of-rank : (d : List ℕ) → DepOfRank n d → Each (DepOfRank (length shape)) (given-by d)
+      of-rank : (d : List ℕ) → DepOfRank n d → Each (DepOfRank (length shape)) (fittedYields mode old shape d)
       of-rank d q =
           yields-each shape (stretchedAxes old shape) mode (DepOfRank (length shape))
           (λ x axis v m h. with-of-rank axis v (stretched-below old shape m .0) (omega (arith, h, extent-most axis)))
           (onIndex (fitTo (length shape) 0) d) (changed-of-rank (fitTo (length shape) 0) d q (λ i e. fit-length (length shape) 0 i) (λ i. fit-low (length shape) i))
 
   -- their numbers are below b, if those of the dependencies and 65,536 are
-  pub stretched-below-b : {b : ℕ} → productLimit ≤ b → {deps : List (List ℕ)} → NumbersBelow b deps → NumbersBelow b (stretchDeps mode old shape deps)
+  pub numbers-stay-below : {b : ℕ} → productLimit ≤ b → {deps : List (List ℕ)} → NumbersBelow b deps → NumbersBelow b (stretchDeps mode old shape deps)
   unfolding stretchDeps
-  stretched-below-b {b} h {deps} p = few-each (gather-each given-by (λ d m. low d (p d m)))
+  numbers-stay-below {b} h {deps} p = few-each (gather-each (fittedYields mode old shape) (λ d m. low d (p d m)))
     where
-      low : (d : List ℕ) → RowBelow b d → NumbersBelow b (given-by d)
+      low : (d : List ℕ) → RowBelow b d → NumbersBelow b (fittedYields mode old shape d)
       low d q =
           yields-each shape (stretchedAxes old shape) mode (RowBelow b) (λ x axis v m g. with-low axis v x (omega (arith, g, extent-most axis)))
           (onIndex (fitTo (length shape) 0) d) (changed-low (fitTo (length shape) 0) d q (λ i. fit-low (length shape) i))
@@ -109,6 +105,6 @@ module _ (mode : Mode) {l : Layout} {shape : List ℕ} (g : Stretches l shape) w
 pub stretched-low : (mode : Mode) {l : Layout} → DepsLow l → (shape : List ℕ) → nonzeroProduct shape ≤ productLimit → DepsLow (stretched mode l shape)
 unfolding stretched
 stretched-low mode {l} p shape small = record {
-  states-low = stretched-below-b mode (l .shape) shape small (omega arith) (p .states-low);
-  inputs-low = stretched-below-b mode (l .shape) shape small (omega arith) (p .inputs-low);
+  states-low = numbers-stay-below mode (l .shape) shape small (omega arith) (p .states-low);
+  inputs-low = numbers-stay-below mode (l .shape) shape small (omega arith) (p .inputs-low);
 }

@@ -8,7 +8,7 @@ use Rattle.rules.specs.declared.Mode.the-variants.{Alone, Together}
 use Rattle.rules.specs.Lists.{with}
 use Rattle.rules.specs.RowsInOrder.{In, Each}
 use Rattle.rules.specs.Stretching.{everyValue, yields}
-use Rattle.rules.proofs.Sets.{each-cons, each-nil}
+use Rattle.rules.proofs.Sets.{each-one, each-cons}
 use Rattle.rules.proofs.Gathering.{gather-each}
 use Rattle.rules.proofs.Taking.{every-only, take-each, take-has}
 
@@ -21,12 +21,12 @@ module _ (shape axes : List ℕ) where
       each-cons p
       (gather-each (λ axis. everyValue shape d axis)
       (λ axis m x i. let v = every-only shape d axis i in subst P (sym (v .2)) (stays d axis (v .0) m (v .1) p)))
-  yields-each Together P stays d p = take-each shape (length d) axes P stays (each-cons p (each-nil P))
+  yields-each Together P stays d p = take-each shape (length d) axes P stays (each-one P p)
 
   -- one that lies below the new extents on the stretched axes yields itself
   pub yields-itself : (mode : Mode) (d : List ℕ) → ((k : ℕ) → List·Memᴰ k axes → (k < length d) × (getD d k 0 < getD shape k 0)) → In d (yields mode shape axes d)
   unfolding yields
   yields-itself Alone d h = List·Memᴰ·head refl
   yields-itself Together d h =
-      take-has shape (length d) axes (λ k m. h k m .0) {rows = d ∷ []} (each-cons {P = λ r. length r ≡ length d} refl (each-nil (λ r. length r ≡ length d)))
+      take-has shape (length d) axes (λ k m. h k m .0) {rows = d ∷ []} (each-one (λ r. length r ≡ length d) refl)
       (List·Memᴰ·head refl) (record { size = refl; kept = λ k o. refl; free = λ k m. h k m .1 })

@@ -42,7 +42,7 @@ takeAll shape (axis ∷ axes) rows = takeAll shape axes (gather (λ r. everyValu
 unfoldable pub stretchRows : Layout → List ℕ → List (List ℕ)
 stretchRows l shape = sorted (takeAll shape (keep (λ axis. ltb axis (width l)) (stretchedAxes (l .shape) shape)) (l .rows))
 
--- mode 0, the default: a dependency yields itself fitted to the new rank, and for each stretched axis ALONE every value there
+-- mode 0, the default: a dependency yields itself, and for each stretched axis ALONE every value there
 abbrev pub alone : List ℕ → List ℕ → List ℕ → List (List ℕ)
 alone shape axes d = d ∷ gather (λ axis. everyValue shape d axis) axes
 
@@ -54,9 +54,12 @@ unfoldable pub yields : Mode → List ℕ → List ℕ → List ℕ → List (Li
 yields Alone shape axes d = alone shape axes d
 yields Together shape axes d = together shape axes d
 
+-- on the stretched axes, fitted to the new rank
+abbrev pub fittedYields : Mode → List ℕ → List ℕ → List ℕ → List (List ℕ)
+fittedYields mode old shape d = yields mode shape (stretchedAxes old shape) (onIndex (fitTo (length shape) 0) d)
+
 unfoldable pub stretchDeps : Mode → List ℕ → List ℕ → List (List ℕ) → List (List ℕ)
-stretchDeps mode old shape deps =
-    sortedFew (gather (λ d. yields mode shape (stretchedAxes old shape) (onIndex (fitTo (length shape) 0) d)) deps)
+stretchDeps mode old shape deps = sortedFew (gather (λ d. fittedYields mode old shape d) deps)
 
 -- D grows or shrinks with the rank
 unfoldable pub stretched : Mode → Layout → List ℕ → Layout

@@ -2,7 +2,7 @@
 use mathlib.Core.Path.{_≡_, refl, sym}
 use mathlib.Core.Bool.{Bool, true, false}
 use mathlib.Core.List.{List, [], append-nil}
-use Prim.Native.Nat.{ℕ, zero, suc, _+_, _*_, _-_, _<_, _≤_}
+use Prim.Native.Nat.{ℕ, zero, suc, _+_, _*_, _<_, _≤_}
 use native.Mathlib.Numerals.{add-one}
 use native.Mathlib.Omega.{arith}
 use lib.IntN.{ℤ, pos}
@@ -10,7 +10,7 @@ use lib.ListN.{length, set}
 use Rattle.rules.specs.declared.Mode.{Mode}
 use Rattle.rules.specs.Lists.{gather, from, fitTo}
 use Rattle.rules.specs.Dependencies.{onIndex}
-use Rattle.rules.specs.Stretching.{stretchedAxes, yields}
+use Rattle.rules.specs.Stretching.{stretchedAxes, yields, fittedYields}
 use Rattle.rules.proofs.Changed.{changed-low}
 use Rattle.rules.proofs.Gathering.{gather-append}
 use Rattle.rules.proofs.Replaced.{fit-low}
@@ -36,14 +36,14 @@ rows-turn f a w (suc n) s =
 
 -- what one dependency yields in a mode
 abbrev pub yieldOf : Mode → ℕ → ℕ → List ℤ → List ℕ → ℕ → List (List ℕ)
-yieldOf mode first old src new k = yields mode new (stretchedAxes (extentsIn old src) new) (onIndex (fitTo (length new) 0) (rowAt (first + k * (old + 1)) (old + 1) src))
+yieldOf mode first old src new k = fittedYields mode (extentsIn old src) new (rowAt (first + k * (old + 1)) (old + 1) src)
 
 -- all of it is what the rule gathers
 pub all-yielded : (mode : Mode) {first count old : ℕ} {src : List ℤ} {at rank : ℕ} {shape : List ℤ} {to : ℕ} {entry s t : List ℤ} {r : Bool} →
     DepsAsked first count old src at rank shape to entry → s ≡ set entry to (pos 0) → Taken to (rank + 1) (inTurn (yieldOf mode first old src (rowAt at rank shape)) count) s t r →
     Listed to (rank + 1) (yielded mode first count old src (rowAt at rank shape)) entry t r
 all-yielded mode {first} {count} {old} {src} {at} {rank} {shape} {entry = entry} a e p =
-    rw (rows-turn (λ d. yields mode (rowAt at rank shape) (stretchedAxes (extentsIn old src) (rowAt at rank shape)) (onIndex (fitTo (length (rowAt at rank shape)) 0) d)) first (old + 1) count src)
+    rw (rows-turn (λ d. fittedYields mode (extentsIn old src) (rowAt at rank shape) d) first (old + 1) count src)
     (cleared-listed entry e (a .room) p)
 
 -- what the first i dependencies yield is in the table

@@ -13,7 +13,7 @@ use Rattle.rules.specs.Lists.{gather, product}
 use Rattle.rules.specs.RowsInOrder.{sorted, Each}
 use Rattle.rules.specs.Layout.{few}
 use Rattle.rules.specs.Stretching.{stretchedAxes, alone, together, yields}
-use Rattle.rules.proofs.Sets.{Subset, each-nil, each-cons}
+use Rattle.rules.proofs.Sets.{Subset, each-one}
 use Rattle.rules.proofs.Sorting.{sorted-same}
 use Rattle.rules.proofs.Merging.{sorted-right}
 use Rattle.rules.proofs.Taking.{axis-or-not, take-only, take-has}
@@ -46,18 +46,14 @@ module _ {xs ys : List (List ℕ)} (f : Subset xs ys) (g : Subset ys xs) where
 
 -- ---- entries that differ on the axes alone
 
--- what holds of a row holds of each row of the list of it alone
-one-each : (P : List ℕ → Type 0) {r : List ℕ} → P r → Each P (r ∷ [])
-one-each P p = each-cons p (each-nil P)
-
 module _ (new axes : List ℕ) {n : ℕ} (inside : (k : ℕ) → List·Memᴰ k axes → k < n) where
   -- with every combination of values there they are the same
   together-same : (p q : List ℕ) → length p ≡ n → length q ≡ n → ((k : ℕ) → (List·Memᴰ k axes → ⊥) → getD p k 0 ≡ getD q k 0) → Subset (together new axes p) (together new axes q)
   together-same p q e f same x m =
-      let i = take-only new n axes inside (one-each (λ r. length r ≡ n) e) m in
+      let i = take-only new n axes inside (each-one (λ r. length r ≡ n) e) m in
       let is : i .0 ≡ p = List·Memᴰ·eq-of-singleton (i .1) in
       let t = rw is at (i .2) in
-      take-has new n axes inside (one-each (λ r. length r ≡ n) f) (List·Memᴰ·head refl) (record { size = t .size ∙ e ∙ sym f; kept = λ k o. t .kept k o ∙ same k o; free = t .free })
+      take-has new n axes inside (each-one (λ r. length r ≡ n) f) (List·Memᴰ·head refl) (record { size = t .size ∙ e ∙ sym f; kept = λ k o. t .kept k o ∙ same k o; free = t .free })
 
 -- ---- `put_together`
 
@@ -117,10 +113,10 @@ module _ {entry : List ℤ} {old : ℕ} {src : List ℤ} {at rank : ℕ} {shape 
     entry-long = row-length 0 (rank + 1) entry (a .row .room)
 
     clean-alone : Each (λ r. length r ≡ rank + 1) (cleanRow ∷ [])
-    clean-alone = one-each (λ r. length r ≡ rank + 1) clean-long
+    clean-alone = each-one (λ r. length r ≡ rank + 1) clean-long
 
     clean-zero : Each (λ r. (k : ℕ) → List·Memᴰ k stretching → getD r k 0 ≡ 0) (cleanRow ∷ [])
-    clean-zero = one-each (λ r. (k : ℕ) → List·Memᴰ k stretching → getD r k 0 ≡ 0) (clean .zero)
+    clean-zero = each-one (λ r. (k : ℕ) → List·Memᴰ k stretching → getD r k 0 ≡ 0) (clean .zero)
 
     -- the cleared row plus each index takes values on the stretched axes
     sums-only : Subset (inTurn (movedBy cleanRow values) (product values)) (together newShape stretching cleanRow)

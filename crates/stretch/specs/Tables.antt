@@ -6,11 +6,10 @@ use lib.IntN.{ℤ}
 use lib.ListN.{length, getD}
 use Rattle.rules.specs.declared.Mode.{Mode}
 use Rattle.rules.specs.Limits.{productLimit}
-use Rattle.rules.specs.Lists.{if, gather, below, product, fitTo}
+use Rattle.rules.specs.Lists.{if, gather, below, product}
 use Rattle.rules.specs.RowsInOrder.{Each}
 use Rattle.rules.specs.Positions.{unravel}
-use Rattle.rules.specs.Dependencies.{onIndex}
-use Rattle.rules.specs.Stretching.{isStretched, stretchedAxes, everyValue, yields}
+use Rattle.rules.specs.Stretching.{isStretched, stretchedAxes, everyValue, fittedYields}
 use Rattle.tables.specs.Rows.{rowAt, rowsAt, HasRow, HasRows}
 use Rattle.tables.specs.Tables.{roomEnd, Ready}
 use Rattle.axes.specs.Extents.{Extents}
@@ -56,7 +55,7 @@ pub record DepsAsked (first count old : ℕ) (from : List ℤ) (at rank : ℕ) (
 -- what they yield in a mode, fitted to the new shape
 abbrev pub yielded : Mode → ℕ → ℕ → ℕ → List ℤ → List ℕ → List (List ℕ)
 yielded mode first count old from new =
-    gather (λ d. yields mode new (stretchedAxes (extentsIn old from) new) (onIndex (fitTo (length new) 0) d)) (rowsAt first (old + 1) count from)
+    gather (λ d. fittedYields mode (extentsIn old from) new d) (rowsAt first (old + 1) count from)
 
 -- ---- rows plus every index
 
