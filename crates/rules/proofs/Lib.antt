@@ -9,12 +9,14 @@
 --     DenseRemoved, Once, Lowering, Listed,
 --     Unions, UnionHolds, Low                                      the union of two sound layouts by plain cases, and what it holds
 --     Contracting, Moved, Permuting, Replaced, Ranging,
---     Gathering, Taking, Axes, Stretching, Yielding, StretchedAnswers, ToRank  which answer an operation gives of a sound layout, by plain cases
+--     Gathering, Taking, Axes, Stretching, Yielding,
+--     StretchedAnswers, ToRank                                     which answer an operation gives of a sound layout, by plain cases
 --     Given                                                        that what they give is sound
 --     StretchedHolds, Full, IntersectHolds, ContractedHolds,
 --     PermutedHolds                                                what is held then
 --     Agreeing                                                     the common shape of shapes, by plain cases
 --     Giving, Unchanged, Folding, BroadcastEnds, BroadcastHolds    a broadcast: what is stretched, folded in order, its end, and what it holds
+--     StretchedTogether, StretchedModes                            the two modes of stretching: what each lists, what both share
 --     MovedBy, Blocks, ConcatenateMade, JoinHolds                  blocks: what is moved by a start, what they have in common, what is made of them, and what a join holds
 --     Calls                                                        what calls answer of sound records
 --     Piled, PiledPairs, Summing, ExchangeMade, ExchangeKeeps,
