@@ -11,6 +11,7 @@ ghost use Rattle.stretch.specs.Tables.{inTurn, ValuesAsked, EntryAsked, 
 use super::every::put_moved;
 use super::spread::is_stretched;
 use super::spread::spread_extents;
+use rules::Entries;
 use rules::Mode;
 
 // The entry with every value on one axis is put into the table; false where that makes too many entries.
@@ -153,8 +154,7 @@ fn put_yield(
 pub fn stretch_deps(
     mode: Mode,
     from: &[i32],
-    first: usize,
-    count: usize,
+    deps: Entries,
     old: usize,
     shape: &[i32],
     at: usize,
@@ -162,9 +162,11 @@ pub fn stretch_deps(
     part: &mut [i32],
     to: usize,
 ) -> bool
-    requires { ⌜ DepsAsked first count old (now from) at rank (now shape) to (now part) ⌝ }
-    ensures { λ r. ⌜ Listed to (rank + 1) (yielded mode first count old (now (from .entry)) (rowAt at rank (now (shape .entry)))) (now (part .entry)) (now (part .exit)) r ⌝ }
+    requires { ⌜ DepsAsked (deps .first) (deps .count) old (now from) at rank (now shape) to (now part) ⌝ }
+    ensures { λ r. ⌜ Listed to (rank + 1) (yielded mode (deps .first) (deps .count) old (now (from .entry)) (rowAt at rank (now (shape .entry)))) (now (part .entry)) (now (part .exit)) r ⌝ }
 {
+    let first = deps.first;
+    let count = deps.count;
     cells::store(part, to, 0);
     let mut i = 0;
     while i < count {

@@ -19,6 +19,8 @@ ghost use Rattle.parts.specs.Parts.{partSize};
 ghost use Rattle.parts.specs.Answers.{Says};
 ghost use Rattle.stretch.specs.Layouts.{StretchAsked, FillAsked, TablesMade};
 use deps::stretch_deps;
+use parts::INPUTS;
+use parts::STATES;
 use rows::stretch_rows;
 use rules::Head;
 use rules::Mode;
@@ -44,38 +46,14 @@ fn fill(
 {
     let old = head.rank;
     let rows = head.rows;
-    let states = head.states;
-    let inputs = head.inputs;
     let extents = spread_extents(from, old, shape, at, rank, head.width);
     if !stretch_rows(from, rows.first, rows.count, head.width, extents, part) {
         return false;
     }
-    if !stretch_deps(
-        mode,
-        from,
-        states.first,
-        states.count,
-        old,
-        shape,
-        at,
-        rank,
-        part,
-        parts::STATES,
-    ) {
+    if !stretch_deps(mode, from, head.states, old, shape, at, rank, part, STATES) {
         return false;
     }
-    stretch_deps(
-        mode,
-        from,
-        inputs.first,
-        inputs.count,
-        old,
-        shape,
-        at,
-        rank,
-        part,
-        parts::INPUTS,
-    )
+    stretch_deps(mode, from, head.inputs, old, shape, at, rank, part, INPUTS)
 }
 
 // Whether a record is a diagonal whose axes would no longer be alike.

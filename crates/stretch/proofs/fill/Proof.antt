@@ -5,12 +5,12 @@ use Rattle.stretch.proofs.fill.Statement.{statement}
 use Rattle.stretch.proofs.fill.Tie as tie
 
 spread-extents-requires : tie.Need-spread-extents-requires
-spread-extents-requires c κs = let a = c .before .before .before .pre in (a .asked .shapes, a .wide)
+spread-extents-requires c κs = let a = c .before .pre in (a .asked .shapes, a .wide)
 
 stretch-rows-requires : tie.Need-stretch-rows-requires
 stretch-rows-requires c κs =
     let e = c .before in
-    ask-rows (e .before .before .before .before .pre) (e .spread-extents .result) (search needs) (e .spread-extents .ensures)
+    ask-rows (e .before .before .pre) (e .spread-extents .result) (search needs) (e .spread-extents .ensures)
 
 same-length : tie.Need-same-length
 same-length c = search needs
@@ -19,14 +19,14 @@ returns : tie.Need-returns
 returns c =
     let p = c .before .before in
     let e = p .before .before in
-    rows-over (e .before .before .before .before .pre) (e .spread-extents .result) (search needs) (e .spread-extents .ensures) (p .stretch-rows .ensures) _ (c .if1 .taken)
+    rows-over (e .before .before .pre) (e .spread-extents .result) (search needs) (e .spread-extents .ensures) (p .stretch-rows .ensures) _ (c .if1 .taken)
 
 stretch-deps-requires : tie.Need-stretch-deps-requires
 stretch-deps-requires c κs =
     let i = c .before in
     let p = i .before .before in
     let e = p .before .before in
-    ask-states (e .before .before .before .before .pre) (e .spread-extents .result) (search needs) (e .spread-extents .ensures) (p .stretch-rows .ensures) (i .if1 .left)
+    ask-states (e .before .before .pre) (e .spread-extents .result) (search needs) (e .spread-extents .ensures) (p .stretch-rows .ensures) (i .if1 .left)
 
 same-length-2 : tie.Need-same-length-2
 same-length-2 c = search needs
@@ -37,7 +37,7 @@ returns-2 c =
     let i = d .before .before in
     let p = i .before .before in
     let e = p .before .before in
-    states-over (e .before .before .before .before .pre) (e .spread-extents .result) (search needs) (e .spread-extents .ensures) (p .stretch-rows .ensures) (i .if1 .left) _ (d .stretch-deps .ensures) (c .if2 .taken)
+    states-over (e .before .before .pre) (e .spread-extents .result) (search needs) (e .spread-extents .ensures) (p .stretch-rows .ensures) (i .if1 .left) _ (d .stretch-deps .ensures) (c .if2 .taken)
 
 stretch-deps-requires-2 : tie.Need-stretch-deps-requires-2
 stretch-deps-requires-2 c κs =
@@ -46,7 +46,7 @@ stretch-deps-requires-2 c κs =
     let i = d .before .before in
     let p = i .before .before in
     let e = p .before .before in
-    ask-inputs (e .before .before .before .before .pre) (e .spread-extents .result) (search needs) (e .spread-extents .ensures) (p .stretch-rows .ensures) (i .if1 .left) _ (d .stretch-deps .ensures) (j .if2 .left)
+    ask-inputs (e .before .before .pre) (e .spread-extents .result) (search needs) (e .spread-extents .ensures) (p .stretch-rows .ensures) (i .if1 .left) _ (d .stretch-deps .ensures) (j .if2 .left)
 
 same-length-3 : tie.Need-same-length-3
 same-length-3 c = search needs
@@ -59,7 +59,7 @@ returns-3 c =
     let i = d .before .before in
     let p = i .before .before in
     let e = p .before .before in
-    tables-made (e .before .before .before .before .pre) (e .spread-extents .result) (search needs) (e .spread-extents .ensures) (p .stretch-rows .ensures) (i .if1 .left) _ (d .stretch-deps .ensures) (j .if2 .left) (n .stretch-deps2 .ensures)
+    tables-made (e .before .before .pre) (e .spread-extents .result) (search needs) (e .spread-extents .ensures) (p .stretch-rows .ensures) (i .if1 .left) _ (d .stretch-deps .ensures) (j .if2 .left) (n .stretch-deps2 .ensures)
 
 pub fill-spec : {M : Type 1} → statement M
 fill-spec =

@@ -8,10 +8,10 @@ use Rattle.stretch.proofs.deps.stretch_deps.Statement.{statement}
 use Rattle.stretch.proofs.deps.stretch_deps.Tie as tie
 
 abbrev Inv-loop : tie.InvT-loop
-Inv-loop mode from first count old shape at rank part₀ to i₀ part i = Depending mode first count old from at rank shape to i part₀ part
+Inv-loop mode from old shape at rank part₀ to first count i₀ part i = Depending mode first count old from at rank shape to i part₀ part
 
 abbrev μ-loop : tie.MeasureT-loop
-μ-loop mode from first count old shape at rank part₀ to i₀ part i = count - i
+μ-loop mode from old shape at rank part₀ to first count i₀ part i = count - i
 
 store-requires : tie.Need-store-requires Inv-loop μ-loop
 store-requires c κs = let a = c .before .pre in omega (arith, a .room)
