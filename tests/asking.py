@@ -21,9 +21,10 @@ REFUSALS = {
 }
 # the operations that the port has: to be answered, and never with `unknown`
 IN_PORT = tuple(REFUSALS)
-# the operations that came with later requests; the reading is told which of these requests are in force
+# the operations that came with later requests
 LATER = (32, 33, 34)
-os.environ['LANDED'] = 'Q-1'
+# the later requests that are in force, as the reading is told
+os.environ['LANDED'] = 'Q-1 Q-2'
 
 
 def need_rust():

@@ -55,7 +55,7 @@ def worked_by_hand():
         ('P4', line(7, dense([1, 3]), [4, 2]), 'found 2'),
         ('P5', line(7, record(DIAGONAL, 0, [1, 1]), [3, 3]), 'nothing'),
         ('P6', line(19, dense([1, 1], [(0, 0, 7)]), [2, *square], *BUFFERS), said(dense(square, [(0, 0, 7), (0, 1, 7), (1, 0, 7)]))),
-        ('P7', line(24, sparse(square, [(1,)], D=1), *BUFFERS), said(sparse([2], []))),
+        ('P7', line(24, sparse(square, [(1,)], D=1), *BUFFERS), said(sparse([2], [(1,)]))),
         ('P8', line(27, [], 0, 3, *BUFFERS), 'ok 0 0 0 0 0 0'),
         ('P9', line(25, sparse([2, 3], [(0, 2), (1, 0)]), [1, 0], *BUFFERS), said(moved)),
         ('P9', line(7, moved, [2, 0]), 'refused 4'),
@@ -188,8 +188,25 @@ def modes_of_stretching():
         yield from [line(34, one, 17, 43, mode, *BUFFERS), line(34, [], 0, 43, mode, *BUFFERS)]
 
 
+def branch_loads():
+    """The loads of five branches over 24 hours, of which three draw at every hour and depend on their supply temperature."""
+    return sparse([5, 24], [(0,), (2,), (3,)], [(b, 0, b) for b in (0, 2, 3)], D=1)
+
+
+def contractions_over_dense_axes():
+    """Rows kept, few and many, in order and not, filling the shape, without numbers, over an extent 0; D from 1 to 4; dependencies that meet; kinds without rows."""
+    cube, deps = [2, 3, 2], [(1, 2, 0, 7), (1, 2, 1, 7), (1, 2, 1, 9)]
+    records = [branch_loads(), sparse([3, 2], [(2,), (0,)], D=1), sparse([2, 3], [(1,), (0,)], D=1), sparse([2, 0], [(1,)], D=1), sparse([0, 2], [], D=1)]
+    records += [sparse(cube, [(1, 2), (0, 1)], deps, deps[1:], D=1), sparse(cube, [(1,), (0,)], deps, D=2), sparse(cube, [()], deps, D=3), sparse(cube, [], deps, D=1)]
+    records += [sparse([4], [()], D=1), sparse([4], [], D=1), sparse([0], [()], D=1), sparse([1] * 4, [()], D=4), sparse([2] * 4, [(1, 0, 1), (0, 1, 1)], D=1)]
+    records += [sparse([200, 2], run_of(9, n)[::step], D=1) for n in (127, 128, 129) for step in (1, -1)] + [sparse([3, 2], [(1,), (1,)], D=1), sparse([3, 2], [(3,)], D=1)]
+    records += [record(DIAGONAL, D, [2] * (3 - D) + [3] * D, (), deps) for D in (1, 2)] + [dense(cube, deps)]
+    for s in records:
+        yield from [line(24, s, *BUFFERS), line(24, s + [5, -1], *BUFFERS), line(24, s, 1801, 10812), line(24, s, 1802, 10811)]
+
+
 def all_cases():
     """Every request made by hand, once."""
     positions = [request for _, request, _ in worked_by_hand()]
-    parts = (positions, limits_of_records(), limits_of_pairs(), limits_of_others(), two_faults(), tests_of_the_rust(), ranges_of_the_rust(), modes_of_stretching())
+    parts = (positions, limits_of_records(), limits_of_pairs(), limits_of_others(), two_faults(), tests_of_the_rust(), ranges_of_the_rust(), modes_of_stretching(), contractions_over_dense_axes())
     return list(dict.fromkeys(request for part in parts for request in part))

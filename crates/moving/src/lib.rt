@@ -1,5 +1,5 @@
-// A layout made in one part, section by section: its head, and rows and dependencies whose numbers are picked from those of a record; and
-// dependencies fitted to another rank.
+// A layout made in one part, section by section: its head, rows as they stand in a record, and rows and dependencies whose numbers are picked
+// from those of a record; and dependencies fitted to another rank.
 ghost use mathlib.Core.Path.{_≡_};
 ghost use mathlib.Core.List.{map};
 ghost use Prim.Native.Nat.{_+_, _≤_};
@@ -11,7 +11,7 @@ ghost use Rattle.rules.specs.Dependencies.{onIndex};
 ghost use Rattle.cells.specs.View.{view};
 ghost use Rattle.tables.specs.Rows.{rowAt, rowsAt};
 ghost use Rattle.records.specs.Sound.{SoundRecord};
-ghost use Rattle.parts.specs.Parts.{partSize};
+ghost use Rattle.parts.specs.Parts.{partSize, rowsFrom};
 ghost use Rattle.moving.specs.Sections.{HeadAsked, HeadMade, TableMade};
 ghost use Rattle.moving.specs.Fitting.{Smaller, FitAsked};
 ghost use Rattle.moving.specs.Picking.{picked, shorterPlaces, RowAsked, PickAsked, DepsPicked};
@@ -27,6 +27,17 @@ pub fn write_head(part: &mut [i32], kind: usize, dense: usize, extents: &[i32])
     cells::store(part, parts::DENSE, dense);
     cells::store(part, parts::RANK, extents.len());
     cells::copy_into(extents, part, parts::EXTENTS);
+}
+
+// The rows of a record, as they stand there, become those of a part.
+pub fn keep_rows(s: &[i32], head: Head, part: &mut [i32])
+    requires { ⌜ SoundRecord head (now s) ⌝ }
+    requires { ⌜ partSize ≤ length (now part) ⌝ }
+    ensures { λ _. ⌜ TableMade rowsFrom (head .width) (layoutIn (now (s .entry)) .rows) (now (part .entry)) (now (part .exit)) ⌝ }
+{
+    let rows = head.rank + records::EXTENTS;
+    let states = head.rows.next;
+    cells::copy_into(&s[rows..states], part, parts::ROWS);
 }
 
 // The places of the numbers of a dependency that is shortened: so many components of its index, then its number, which stands behind

@@ -29,11 +29,11 @@ use Rattle.parts.proofs.Copied.{number-copied, part-copied, table-copie
 -- ---- numbers that are copied
 
 -- the n numbers from b of s on are copied to a of t, which makes it u
-record Copied (a b n : ℕ) (s t u : List ℤ) : Type 0 where
-  there : part a n u ≡ part b n s
-  only : Only a (a + n) t u
+pub record Copied (a b n : ℕ) (s t u : List ℤ) : Type 0 where
+  pub there : part a n u ≡ part b n s
+  pub only : Only a (a + n) t u
 
-copied : (a b n : ℕ) (s t : List ℤ) {u : List ℤ} → b + n ≤ length s → a + n ≤ length t → u ≡ put a (part b n s) t →
+pub copied : (a b n : ℕ) (s t : List ℤ) {u : List ℤ} → b + n ≤ length s → a + n ≤ length t → u ≡ put a (part b n s) t →
     Copied a b n s t u
 copied a b n s t h l e =
     let long : length (part b n s) ≡ n = length-part b n s h in
@@ -57,12 +57,12 @@ pub record Places (h : Head) (s : List ℤ) : Type 0 where
   pub inside : h .inputs .next ≤ length s
 
 -- a section of at most 128 entries
-section-few : {i w : ℕ} {s : List ℤ} {e : Entries} → Laid i w s e → e .count ≤ 128 → (i + 1 ≤ e .next) × (e .next ≤ i + 1 + 128 * w)
+pub section-few : {i w : ℕ} {s : List ℤ} {e : Entries} → Laid i w s e → e .count ≤ 128 → (i + 1 ≤ e .next) × (e .next ≤ i + 1 + 128 * w)
 section-few {i} {w} {s} {e} l few = let k : e .count * w ≤ 128 * w = mul-le-mul-right w few in (omega arith, omega arith)
 
--- its count as it is seen, and its size
-section-size : {i w : ℕ} {s : List ℤ} {e : Entries} → Laid i w s e → (getD (view s) i 0 ≡ e .count) × (1 + e .count * w ≤ e .next - i)
-section-size {i} {w} {s} {e} l = (view-getD s i ∙ ap code (l .count), omega arith)
+-- a section whose numbers stand at a place is the table there
+pub section-there : {i w : ℕ} {s : List ℤ} {e : Entries} → Laid i w s e → (to : ℕ) (t : List ℤ) → part to (e .next - i) t ≡ part i (e .next - i) s → tableAt to w t ≡ rowsAt (e .first) w (e .count) s
+section-there {i} {w} {s} {e} l to t there = rw (l .first) (table-copied to i (e .next - i) s t there w (e .count) (view-getD s i ∙ ap code (l .count)) (omega arith))
 
 module _ {h : Head} {s : List ℤ} (r : SoundRecord h s) where
   -- the record is readable
@@ -131,27 +131,15 @@ module _ {h : Head} {s : List ℤ} (r : SoundRecord h s) where
     rows-there : tableAt 7 (h .width) t₄ ≡ rowsAt (h .rows .first) (h .width) (h .rows .count) s
     rows-there =
         let b = places in
-        let size : ℕ = h .rows .next - (h .rank + 3) in
-        let there : part 7 size t₄ ≡ part (h .rank + 3) size s =
-        part-outside from-states 7 size (inl (omega arith)) ∙ c₂ .there in
-        let l = section-size (p .head .rows) in
-        rw (p .head .rows .first) (table-copied 7 (h .rank + 3) size s t₄ there (h .width) (h .rows .count) (l .0) (l .1))
+        section-there (p .head .rows) 7 t₄ (part-outside from-states 7 (h .rows .next - (h .rank + 3)) (inl (omega arith)) ∙ c₂ .there)
 
     states-there : tableAt statesFrom (h .rank + 1) t₄ ≡ rowsAt (h .states .first) (h .rank + 1) (h .states .count) s
     states-there =
         let b = places in
-        let size : ℕ = h .states .next - h .rows .next in
-        let there : part statesFrom size t₄ ≡ part (h .rows .next) size s =
-        part-outside from-inputs statesFrom size (inl (omega arith)) ∙ c₃ .there in
-        let l = section-size (p .head .states) in
-        rw (p .head .states .first) (table-copied statesFrom (h .rows .next) size s t₄ there (h .rank + 1) (h .states .count) (l .0) (l .1))
+        section-there (p .head .states) statesFrom t₄ (part-outside from-inputs statesFrom (h .states .next - h .rows .next) (inl (omega arith)) ∙ c₃ .there)
 
     inputs-there : tableAt inputsFrom (h .rank + 1) t₄ ≡ rowsAt (h .inputs .first) (h .rank + 1) (h .inputs .count) s
-    inputs-there =
-        let size : ℕ = h .inputs .next - h .states .next in
-        let l = section-size (p .head .inputs) in
-        rw (p .head .inputs .first)
-        (table-copied inputsFrom (h .states .next) size s t₄ (c₄ .there) (h .rank + 1) (h .inputs .count) (l .0) (l .1))
+    inputs-there = section-there (p .head .inputs) inputsFrom t₄ (c₄ .there)
 
     -- the head
     number-there : (k : ℕ) → k < 3 → getD (view t₄) (0 + k) 0 ≡ getD (view s) (0 + k) 0

@@ -1,12 +1,10 @@
 -- `contract_into`: each arm writes the front of the contracted layout, and its dependencies are shortened. Assumes nothing.
 use mathlib.Core.Path.{_≡_, refl, sym, ap, _∙_}
-use mathlib.Core.Bool.{Bool, true, false, _&&_, _||_}
 use mathlib.Core.List.{List, [], map}
 use mathlib.Core.Logic.{inl}
 use Prim.Native.Nat.{ℕ, suc, _+_, _-_, _<_, _≤_}
 use native.Mathlib.Omega.{arith}
-use borrow.Author.Tests.{lt-ltb, le-leb, eq-eqb, ne-eqb}
-use lib.Dec.{eqb, ltb}
+use borrow.Author.Tests.{le-leb, eq-eqb, ne-eqb}
 use lib.IntN.{ℤ, pos}
 use lib.ListN.{length, getD, set, take, drop, length-take, length-set}
 use lib.Seq.{take-take}
@@ -14,17 +12,17 @@ use Rattle.rules.specs.declared.Head.{Head}
 use Rattle.rules.specs.declared.Refusal.the-variants.{ScalarContracted}
 use Rattle.rules.specs.declared.Step.the-variants.{Done, Refused}
 use Rattle.rules.specs.Limits.{productLimit}
-use Rattle.rules.specs.Lists.{if, product}
+use Rattle.rules.specs.Lists.{product}
 use Rattle.rules.specs.RowsInOrder.{sorted, Each}
 use Rattle.rules.specs.Refusals.{numberOf}
 use Rattle.rules.specs.Buffers.{part}
-use Rattle.rules.specs.Layout.{Layout, rank, isDense, isDiagonal, isSparse, nonzeroProduct, withinProduct}
+use Rattle.rules.specs.Layout.{Layout, rank, nonzeroProduct, withinProduct}
 use Rattle.rules.specs.Record.{layoutIn}
 use Rattle.rules.specs.CountsAndForms.{toDense, denseIfFull}
 use Rattle.rules.specs.ContractLastAxis.{shortened, shortenedDeps, overShorter, contracted, contractLastAxis}
 use Rattle.rules.proofs.Soundness.{OneKind, is-dense, is-diagonal, is-sparse, one-kind}
 use Rattle.rules.proofs.Extents.{nonzero-take}
-use Rattle.rules.proofs.Contracting.{shortened-length, contracted-dense-axis, contracted-diagonal, contracted-to-dense, contracted-rows, contracted-sound, contract-scalar, contract-given, contracted-low}
+use Rattle.rules.proofs.Contracting.{shortened-length, same-width, contracted-dense-axis, contracted-diagonal, contracted-to-dense, contracted-rows, contracted-cases, contracted-sound, contract-scalar, contract-given, contracted-low}
 use Rattle.cells.specs.View.{view}
 use Rattle.cells.proofs.View.{view-take, view-drop}
 use Rattle.tables.specs.Rows.{rowAt, rowsAt}
@@ -33,7 +31,7 @@ use Rattle.tables.proofs.Tables.{table-length}
 use Rattle.axes.specs.Extents.{Extents}
 use Rattle.records.specs.Sound.{SoundRecord}
 use Rattle.records.proofs.SoundRecords.{lies, layout-sound, layout-shown}
-use Rattle.records.proofs.Shown.{shape-size, rank-shown, dense-shown, kind-shown, deps-low}
+use Rattle.records.proofs.Shown.{shape-size, rank-shown, dense-shown, width-shown, kind-shown, deps-low}
 use Rattle.parts.specs.Parts.{partSize, rowsFrom, statesFrom, layoutAt}
 use Rattle.parts.specs.Answers.{Says}
 use Rattle.parts.proofs.Saying.{says-refused}
@@ -106,20 +104,17 @@ module _ {h : Head} {s t : List ℤ} (q : SumAsked h s t) where
 
   -- ---- with dense axes
 
-  module _ (less : h .width < h .rank) {kind : ℕ} (kind-is : kind ≡ getD (view s) 0 0) {u : List ℤ} (e : u ≡ set t rowsFrom (pos 0)) where
-    pub ask-dense-axis : HeadAsked kind (h .rank - h .width - 1) (take (h .rank + 2 - 3) (drop 3 s)) u
-    ask-dense-axis = ask-head kind (h .rank - h .width - 1) (rw kind-is kind-most) (omega arith) (rw (e, length-set) refl)
+  module _ {kind : ℕ} (kind-is : kind ≡ getD (view s) 0 0) {u : List ℤ} (p : TableMade rowsFrom (h .width) (l .rows) t u) where
+    pub ask-dense-axis : (dense : ℕ) → dense ≤ h .rank → HeadAsked kind dense (take (h .rank + 2 - 3) (drop 3 s)) u
+    ask-dense-axis dense d = ask-head kind dense (rw kind-is kind-most) d (p .only .size)
 
-    pub dense-axis-summed : {v : List ℤ} → HeadMade kind (h .rank - h .width - 1) (view (take (h .rank + 2 - 3) (drop 3 s))) u v → FrontMade (contracted l) t v
-    dense-axis-summed m =
+    pub dense-axis-summed : {v : List ℤ} → h .width < h .rank → HeadMade kind (h .rank - h .width - 1) (view (take (h .rank + 2 - 3) (drop 3 s))) u v → FrontMade (contracted l) t v
+    dense-axis-summed less m =
         let dense = dense-shown (q .sound) in
-        rw (contracted-dense-axis l (some (isDense l)))
-        (bare-front (omega (arith, shorter, few)) (q .room)
-        (head-same (kind-is ∙ sym (kind-shown (q .sound))) (omega arith) (lent-extents (q .sound)) m) e refl)
-      where
-        some : (b : Bool) → b || ltb 0 (l .dense) ≡ true
-        some true = refl
-        some false = lt-ltb 0 (l .dense) (omega (arith, dense-shown (q .sound)))
+        let wide : h .width ≡ length (shortened (l .shape)) - (l .dense - 1) = sym (same-width (layout-sound (q .sound) .form) (omega arith) ∙ width-shown (q .sound)) in
+        rw (contracted-dense-axis l (omega arith))
+        (front-made (omega (arith, shorter, few)) (q .room)
+        (head-same (kind-is ∙ sym (kind-shown (q .sound))) (omega arith) (lent-extents (q .sound)) m) (rw wide at p))
 
   -- ---- without
 
@@ -216,25 +211,17 @@ record Shorter (l x : Layout) : Type 0 where
   inputs-are : x .inputs ≡ shortenedDeps (l .inputs)
 
 contracted-shorter : (l : Layout) → Shorter l (contracted l)
-unfolding contracted denseIfFull toDense
-contracted-shorter l = go (isDense l || ltb 0 (l .dense)) (isDiagonal l) (ltb 2 (rank l)) (isSparse l && eqb (length (sorted (map shortened (l .rows)))) (product (shortened (l .shape))))
+unfolding toDense
+contracted-shorter l = contracted-cases l (Shorter l) (plain (l .dense - 1) (l .rows)) (plain 0 []) (dense []) (plain 0 rows) (dense rows)
   where
-    plain : (d : ℕ) (rows : List (List ℕ)) → Shorter l (overShorter l d rows)
-    plain d rows = record { shape-is = refl; states-are = refl; inputs-are = refl }
-
-    dense : (d : ℕ) (rows : List (List ℕ)) → Shorter l (toDense (overShorter l d rows))
-    dense d rows = record { shape-is = refl; states-are = refl; inputs-are = refl }
-
     rows : List (List ℕ)
     rows = sorted (map shortened (l .rows))
 
-    go : (a b c d : Bool) →
-        Shorter l (if a (overShorter l (l .dense - 1) []) (if b (if c (overShorter l 0 []) (toDense (overShorter l 0 []))) (if d (toDense (overShorter l 0 rows)) (overShorter l 0 rows))))
-    go true b c d = plain (l .dense - 1) []
-    go false true true d = plain 0 []
-    go false true false d = dense 0 []
-    go false false c true = dense 0 rows
-    go false false c false = plain 0 rows
+    plain : (d : ℕ) (rows : List (List ℕ)) → Shorter l (overShorter l d rows)
+    plain d rows = record { shape-is = refl; states-are = refl; inputs-are = refl }
+
+    dense : (rows : List (List ℕ)) → Shorter l (toDense (overShorter l 0 rows))
+    dense rows = record { shape-is = refl; states-are = refl; inputs-are = refl }
 
 -- a record that has an axis
 pub has-axis : {h : Head} {s t : List ℤ} → SoundRecord h s → (h .rank ≡ 0 → ⊥) → partSize ≤ length t → SumAsked h s t

@@ -11,7 +11,7 @@ use rules::Head;
 use rules::Refusal;
 use rules::Step;
 
-// With dense axes: one less, and no rows.
+// With dense axes: one less, and the rows as they stand in the record.
 fn sum_dense_axis(record: &[i32], head: Head, part: &mut [i32])
     requires { ⌜ SumAsked head (now «record») (now part) ⌝ }
     requires { ⌜ head .width < head .rank ⌝ }
@@ -20,7 +20,7 @@ fn sum_dense_axis(record: &[i32], head: Head, part: &mut [i32])
     let kind = cells::get(record, records::KIND);
     let dense = head.rank - head.width;
     let last = head.rank + records::RANK;
-    cells::store(part, parts::ROWS, 0);
+    moving::keep_rows(record, head, part);
     moving::write_head(part, kind, dense - 1, &record[records::EXTENTS..last]);
 }
 

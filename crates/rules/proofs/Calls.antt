@@ -19,7 +19,10 @@ use Rattle.rules.specs.Lookup.{lookup, findNnzIndexCall}
 use Rattle.rules.specs.CountsAndForms.{nnz, nnzCall}
 use Rattle.rules.specs.Union.{union, unionCall}
 use Rattle.rules.specs.Intersect.{intersect, intersectCall}
+use Rattle.rules.specs.ContractLastAxis.{contractLastAxis, contractLastAxisCall}
 use Rattle.rules.specs.Pile.{unionOf, intersectionOf}
+use Rattle.rules.proofs.Same.{both-true}
+use Rattle.rules.proofs.Sets.{increasing-true, true-increasing}
 use Rattle.rules.proofs.Tests.{true-both}
 use Rattle.rules.proofs.Extents.{extent-limited}
 use Rattle.rules.proofs.Sections.{naturals-pos}
@@ -28,7 +31,7 @@ use Rattle.rules.proofs.ReadBack.{layout-sound, record-and-rest}
 use Rattle.rules.proofs.Holding.{Position}
 use Rattle.rules.proofs.Unions.{union-sound}
 use Rattle.rules.proofs.Low.{below-at}
-use Rattle.rules.proofs.Given.{step-given}
+use Rattle.rules.proofs.Given.{step-given, contract-sound, contract-in-order}
 use Rattle.rules.proofs.IntersectHolds.{intersect-sound}
 
 -- the count of extents stands third in a record
@@ -48,6 +51,25 @@ module _ (s t : List ℤ) (result work : ℕ) {l : Layout} where
   pub intersect-call-sound : intersectCall s t result work ≡ given l → Sound l
   unfolding intersectCall
   intersect-call-sound e = intersect-sound (layoutIn s) (layoutIn t) (step-given _ _ e)
+
+-- ---- any slice
+
+module _ (s : List ℤ) (result work : ℕ) {l : Layout} (g : contractLastAxisCall s result work ≡ given l) where
+  -- what is contracted
+  contract-call-given : contractLastAxis (layoutIn s) ≡ given l
+  unfolding contractLastAxisCall
+  contract-call-given = step-given _ _ g
+
+  -- a contraction that is given is sound
+  pub contract-call-sound : Sound l
+  contract-call-sound = contract-sound (layoutIn s) contract-call-given
+
+  -- and of an ordered record an ordered one
+  pub contract-call-ordered : ordered s ≡ true → ordered (encode l) ≡ true
+  unfolding ordered
+  contract-call-ordered o =
+      let rows = increasing-true (layoutIn s .rows) (both-true (sound s) (increasing (layoutIn s .rows)) o .1) in
+      rw (sound-alone contract-call-sound, layout-alone contract-call-sound) (true-increasing (contract-in-order (layoutIn s) contract-call-given rows))
 
 -- ---- one sound record
 

@@ -1,26 +1,29 @@
 -- What a contracted layout holds. Assumes nothing.
 use mathlib.Core.Path.{_≡_, refl, sym, ap, _∙_}
-use mathlib.Core.Bool.{true}
+use mathlib.Core.Bool.{Bool, true, false, _&&_}
 use mathlib.Core.List.{List, [], _∷_, _++_, map, Memᴰ·map, Memᴰ·of-map}
 use Prim.Native.Nat.{ℕ, suc, _-_, _≤_, _<_}
 use native.Mathlib.Omega.{arith}
-use borrow.Author.Tests.{eq-eqb}
-use lib.ListN.{length, getD, length-append, List·getD-append}
-use lib.Seq.{take-append-seam, take-at, take-all, take-suc, getD-append-seam, getD-take}
-use Rattle.rules.specs.RowsInOrder.{sorted, In, Each}
-use Rattle.rules.specs.Layout.{Layout, rank, alike}
+use lib.ListN.{length, getD, take, length-append, List·getD-append}
+use lib.Seq.{take-append-seam, take-append-le, take-at, take-all, take-suc, getD-append-seam, getD-take}
+use Rattle.rules.specs.Lists.{if}
+use Rattle.rules.specs.RowsInOrder.{sorted, among, In, Each}
+use Rattle.rules.specs.Layout.{Layout, rank, width, isDense, isDiagonal, alike}
 use Rattle.rules.specs.Soundness.{WellFormed}
 use Rattle.rules.specs.CountsAndForms.{toDense}
 use Rattle.rules.specs.ContractLastAxis.{shortened, overShorter, contracted}
-use Rattle.rules.specs.Holding.{holds}
+use Rattle.rules.specs.Holding.{isPosition, holds}
 use Rattle.rules.proofs.Order.{ComparedNumbers, under, even, above, compareNumbers}
+use Rattle.rules.proofs.Same.{both-true}
 use Rattle.rules.proofs.Sets.{in-same}
 use Rattle.rules.proofs.Sorting.{sorted-has, sorted-only, sorted-sorted, sorted-each}
+use Rattle.rules.proofs.Tests.{true-both}
+use Rattle.rules.proofs.Soundness.{OneKind, is-dense, is-diagonal, is-sparse, one-kind}
 use Rattle.rules.proofs.Alike.{alike-at, alike-take, alike-more, short-alike}
 use Rattle.rules.proofs.Low.{below-at, at-below}
-use Rattle.rules.proofs.Holding.{Position, true-position, holds-position, holds-dense, sparse-true, true-sparse, Whole, whole-dense, whole-diagonal, whole-sparse, whole-front, held-alike, diagonal-extents}
+use Rattle.rules.proofs.Holding.{Position, position-true, true-position, holds-position, holds-dense, sparse-true, true-sparse, whole-front, held-alike, diagonal-extents}
 use Rattle.rules.proofs.Changed.{each-map}
-use Rattle.rules.proofs.Contracting.{shortened-length, take-below, contracted-dense-axis, contracted-diagonal, contracted-to-dense, contracted-rows}
+use Rattle.rules.proofs.Contracting.{shortened-length, take-below, same-width, contracted-dense-axis, contracted-diagonal, contracted-to-dense, contracted-rows}
 use Rattle.rules.proofs.Full.{dense-if-full-holds}
 
 -- ---- one more component
@@ -67,19 +70,34 @@ module _ (shape index : List ℕ) (v : ℕ) where
 abbrev pub HeldBehind : Layout → List ℕ → Type 0
 HeldBehind l index = (v : ℕ) × (holds l (index ++ (v ∷ [])) ≡ true)
 
-module _ (l : Layout) (k : l .kind ≡ 0) where
-  -- a dense layout stays dense
-  dense-is : contracted l ≡ overShorter l (l .dense - 1) []
-  dense-is = contracted-dense-axis l (rw (eq-eqb (l .kind) 0 k))
+-- what is asked of the first R - D components of a position, by the kind
+abbrev asked : Layout → List ℕ → Bool
+asked l front = if (isDense l) true (if (isDiagonal l) (alike front) (among front (l .rows)))
 
-  dense-there : (index : List ℕ) (v : ℕ) → holds l (index ++ (v ∷ [])) ≡ true → holds (contracted l) index ≡ true
-  dense-there index v e =
-      rw dense-is (holds-dense (overShorter l (l .dense - 1) []) index k ∙ true-position (shorter-position (l .shape) index v (holds-position l (index ++ (v ∷ [])) e)))
+module _ {l : Layout} (w : WellFormed l) (g : 0 < l .dense) where
+  -- with a dense axis the same is asked of a position of the shorter shape, whatever the last extent is
+  fewer-holds : (index : List ℕ) → holds (contracted l) index ≡ isPosition (shortened (l .shape)) index && asked l (take (width l) index)
+  unfolding holds
+  fewer-holds index = rw (contracted-dense-axis l g, same-width w g) refl
 
-  dense-back : 0 < rank l → 0 < getD (l .shape) (rank l - 1) 0 → (index : List ℕ) → holds (contracted l) index ≡ true → HeldBehind l index
-  dense-back h g index e =
-      let p = holds-position (overShorter l (l .dense - 1) []) index (rw dense-is at e) in
-      (0, holds-dense l (index ++ (0 ∷ [])) k ∙ true-position (longer-position (l .shape) index 0 h p g))
+  -- the component on the last axis is none of the first R - D
+  front-same : (index : List ℕ) (v : ℕ) → length index ≡ rank l - 1 → take (width l) (index ++ (v ∷ [])) ≡ take (width l) index
+  front-same index v e = take-append-le (width l) index (v ∷ []) (omega arith)
+
+  fewer-there : (index : List ℕ) (v : ℕ) → holds l (index ++ (v ∷ [])) ≡ true → holds (contracted l) index ≡ true
+  unfolding holds
+  fewer-there index v e =
+      let p = shorter-position (l .shape) index v (holds-position l (index ++ (v ∷ [])) e) in
+      let front = both-true (isPosition (l .shape) (index ++ (v ∷ []))) (asked l (take (width l) (index ++ (v ∷ [])))) e .1 in
+      fewer-holds index ∙ true-both (true-position p) (rw (front-same index v (p .size ∙ shortened-length (l .shape))) at front)
+
+  fewer-back : 0 < getD (l .shape) (rank l - 1) 0 → (index : List ℕ) → holds (contracted l) index ≡ true → HeldBehind l index
+  unfolding holds
+  fewer-back o index e =
+      let on = both-true (isPosition (shortened (l .shape)) index) (asked l (take (width l) index)) (sym (fewer-holds index) ∙ e) in
+      let p = position-true (shortened (l .shape)) index (on .0) in
+      let front = front-same index 0 (p .size ∙ shortened-length (l .shape)) in
+      (0, true-both (true-position (longer-position (l .shape) index 0 (omega (arith, w .dense-most)) p o)) (rw front (on .1)))
 
 module _ {l : Layout} (w : WellFormed l) (k : l .kind ≡ 1) (z : l .dense ≡ 0) where
   -- a diagonal: of the shorter shape, and alike
@@ -175,22 +193,39 @@ module _ {l : Layout} (w : WellFormed l) (k : l .kind ≡ 2) (z : l .dense ≡ 0
 
 -- ---- what is held
 
--- a layout that is dense or has no dense axis
-module _ {l : Layout} (w : WellFormed l) (whole : Whole l) where
-  -- contracted, it holds a position if some value on the last axis made it held
+module _ {l : Layout} (w : WellFormed l) where
+  -- contracted, a layout holds a position if some value on the last axis made it held
   pub contracted-holds : (index : List ℕ) → HeldBehind l index → holds (contracted l) index ≡ true
-  contracted-holds index (v, e) = by whole
+  contracted-holds index (v, e) = by (compareNumbers 0 (l .dense)) (one-kind w)
     where
-      by : Whole l → holds (contracted l) index ≡ true
-      by (whole-dense k) = dense-there l k index v e
-      by (whole-diagonal k z) = diagonal-there w k z index v e
-      by (whole-sparse k z) = rows-there w k z index v e
+      by : ComparedNumbers 0 (l .dense) → OneKind l → holds (contracted l) index ≡ true
+      by (under g) kind = fewer-there w g index v e
+      by (above g) kind = absurd (omega arith)
+      by (even z) (is-dense k) = absurd (omega (arith, w .dense-all k, holds-position l (index ++ (v ∷ [])) e .size, length-append index (v ∷ [])))
+      by (even z) (is-diagonal k) = diagonal-there w k (sym z) index v e
+      by (even z) (is-sparse k) = rows-there w k (sym z) index v e
 
-  -- and only then, if it is sparse or the last extent is not 0
-  pub holds-contracted : 0 < rank l → ((l .kind ≡ 2 → ⊥) → 0 < getD (l .shape) (rank l - 1) 0) → (index : List ℕ) → holds (contracted l) index ≡ true → HeldBehind l index
-  holds-contracted h g index e = by whole
+  -- and only then, if it is sparse without dense axes or the last extent is not 0
+  pub holds-contracted : 0 < rank l → (((l .kind ≡ 2) × (l .dense ≡ 0) → ⊥) → 0 < getD (l .shape) (rank l - 1) 0) → (index : List ℕ) → holds (contracted l) index ≡ true → HeldBehind l index
+  holds-contracted h o index e = by (compareNumbers 0 (l .dense)) (one-kind w)
     where
-      by : Whole l → HeldBehind l index
-      by (whole-dense k) = dense-back l k h (g (λ two. omega arith)) index e
-      by (whole-diagonal k z) = diagonal-back w k z h (g (λ two. omega arith)) index e
-      by (whole-sparse k z) = rows-back w k z h index e
+      by : ComparedNumbers 0 (l .dense) → OneKind l → HeldBehind l index
+      by (under g) kind = fewer-back w g (o (λ both. omega (arith, both .1))) index e
+      by (above g) kind = absurd (omega arith)
+      by (even z) (is-dense k) = absurd (omega (arith, w .dense-all k))
+      by (even z) (is-diagonal k) = diagonal-back w k (sym z) h (o (λ both. omega (arith, both .0))) index e
+      by (even z) (is-sparse k) = rows-back w k (sym z) h index e
+
+  -- over any last extent, 0 too, a sparse layout with dense axes then holds the positions of the shorter shape whose first R - D components are a row
+  pub contracted-sparse-holds : l .kind ≡ 2 → 0 < l .dense → (index : List ℕ) → holds (contracted l) index ≡ isPosition (shortened (l .shape)) index && among (take (width l) index) (l .rows)
+  contracted-sparse-holds k g index = fewer-holds w g index ∙ rw k refl
+
+-- where the last extent is 0 nothing was held before
+pub empty-axis-holds-nothing : (l : Layout) → 0 < rank l → getD (l .shape) (rank l - 1) 0 ≡ 0 → (index : List ℕ) → holds l index ≡ false
+empty-axis-holds-nothing l h z index = by (holds l index) refl
+  where
+    by : (t : Bool) → holds l index ≡ t → holds l index ≡ false
+    by true e =
+        let p = holds-position l index e in
+        absurd (omega (arith, below-at index (l .shape) (p .inside) (rank l - 1) (omega (arith, p .size)) (omega arith)))
+    by false e = e

@@ -8,20 +8,19 @@ use native.Mathlib.Omega.{arith}
 use borrow.Author.Tests.{lt-ltb, le-ltb, eq-eqb, ne-eqb}
 use lib.Dec.{ltb}
 use lib.ListN.{length, take}
-use lib.Seq.{length-take-le, take-take}
+use lib.Seq.{length-take-le, take-length, take-take}
 use Rattle.rules.specs.Limits.{entryLimit}
 use Rattle.rules.specs.Lists.{if, allBelow}
-use Rattle.rules.specs.RowsInOrder.{sorted}
+use Rattle.rules.specs.RowsInOrder.{sorted, Increasing, increasing-nil}
 use Rattle.rules.specs.Refusals.{given, refused, lowest}
 use Rattle.rules.specs.Layout.{Layout, rank, width, isDense, isDiagonal}
-use Rattle.rules.specs.Soundness.{NumbersBelow, DepsLow, Sound}
+use Rattle.rules.specs.Soundness.{NumbersBelow, DepsLow, WellFormed, Sound}
 use Rattle.rules.specs.Dependencies.{onIndex}
 use Rattle.rules.specs.CountsAndForms.{toDense, denseIfFull}
 use Rattle.rules.specs.ContractLastAxis.{shortened, shortenedDeps, overShorter, contracted, contractLastAxis}
 use Rattle.rules.proofs.Order.{ComparedNumbers, under, even, above, compareNumbers}
 use Rattle.rules.proofs.Same.{both-true}
-use Rattle.rules.proofs.Sets.{each-nil}
-use Rattle.rules.proofs.Sorting.{sorted-each, sorted-sorted}
+use Rattle.rules.proofs.Sorting.{sorted-each, sorted-sorted, sorted-increasing}
 use Rattle.rules.proofs.Tests.{true-both, true-either}
 use Rattle.rules.proofs.Soundness.{OneKind, is-dense, is-diagonal, is-sparse, one-kind}
 use Rattle.rules.proofs.Extents.{nonzero-take}
@@ -52,13 +51,17 @@ take-below (suc n) (suc m) (c ∷ r) (x ∷ shape) e =
     let h = both-true (ltb c x) (allBelow r shape) e in
     true-both (h .0) (take-below n m r shape (h .1))
 
+-- with one dense axis less the width is the same
+pub same-width : {l : Layout} → WellFormed l → 0 < l .dense → length (shortened (l .shape)) - (l .dense - 1) ≡ width l
+same-width {l} w g = omega (arith, shortened-length (l .shape), w .dense-most)
+
 -- ---- what is made, by cases
 
 module _ (l : Layout) where
-  -- dense, or with dense axes: one dense axis less, and no rows
-  pub contracted-dense-axis : isDense l || ltb 0 (l .dense) ≡ true → contracted l ≡ overShorter l (l .dense - 1) []
+  -- with dense axes, whatever the kind: one dense axis less, and the rows that there are
+  pub contracted-dense-axis : 0 < l .dense → contracted l ≡ overShorter l (l .dense - 1) (l .rows)
   unfolding contracted
-  contracted-dense-axis e = rw e
+  contracted-dense-axis g = rw (true-either (isDense l) (ltb 0 (l .dense)) (λ _. lt-ltb 0 (l .dense) g))
 
   -- a diagonal without dense axes and of rank above 2: a diagonal
   pub contracted-diagonal : l .kind ≡ 1 → l .dense ≡ 0 → 2 < rank l → contracted l ≡ overShorter l 0 []
@@ -74,6 +77,21 @@ module _ (l : Layout) where
   pub contracted-rows : l .kind ≡ 2 → l .dense ≡ 0 → contracted l ≡ denseIfFull (overShorter l 0 (sorted (map shortened (l .rows))))
   unfolding contracted
   contracted-rows k z = rw (k, z)
+
+  -- whatever the layout is, what holds of each of these holds of what is made
+  pub contracted-cases : (P : Layout → Type 0) → P (overShorter l (l .dense - 1) (l .rows)) → P (overShorter l 0 []) → P (toDense (overShorter l 0 [])) →
+      P (overShorter l 0 (sorted (map shortened (l .rows)))) → P (toDense (overShorter l 0 (sorted (map shortened (l .rows))))) → P (contracted l)
+  unfolding contracted
+  contracted-cases P lower diagonal turned sparse full = go (isDense l || ltb 0 (l .dense)) (isDiagonal l) (ltb 2 (rank l))
+    where
+      rows : List (List ℕ)
+      rows = sorted (map shortened (l .rows))
+
+      go : (s t u : Bool) → P (if s (overShorter l (l .dense - 1) (l .rows)) (if t (if u (overShorter l 0 []) (toDense (overShorter l 0 []))) (denseIfFull (overShorter l 0 rows))))
+      go true t u = lower
+      go false true true = diagonal
+      go false true false = turned
+      go false false u = if-full P (overShorter l 0 rows) sparse full
 
 -- ---- it is sound
 
@@ -108,24 +126,22 @@ module _ {l : Layout} (s : Sound l) (h : 0 < rank l) where
   dense-sound d rows =
       formed-sound (to-dense-framed (shorter-framed d rows)) (omega arith) (few-shortened (l .states) (s .sizes .states-few)) (few-shortened (l .inputs) (s .sizes .inputs-few))
 
-  -- with one dense axis less the width is the same
-  same-width : 0 < l .dense → length (shortened (l .shape)) - (l .dense - 1) ≡ width l
-  same-width g = omega (arith, shortened-length (l .shape), s .form .dense-most)
-
   -- with dense axes
-  fewer-sound : 0 < l .dense → Sound (overShorter l (l .dense - 1) [])
-  unfolding sorted
-  fewer-sound g = shorter-sound (omega arith) (by (one-kind (s .form)))
+  fewer-sound : 0 < l .dense → Sound (overShorter l (l .dense - 1) (l .rows))
+  fewer-sound g = shorter-sound (s .sizes .rows-few) (by (one-kind (s .form)))
     where
-      frame : Framed (overShorter l (l .dense - 1) [])
-      frame = shorter-framed (l .dense - 1) []
+      frame : Framed (overShorter l (l .dense - 1) (l .rows))
+      frame = shorter-framed (l .dense - 1) (l .rows)
 
-      by : OneKind l → Formed (overShorter l (l .dense - 1) [])
-      by (is-dense k) = dense-framed frame k (omega (arith, s .form .dense-all k, shortened-length (l .shape))) refl
+      by : OneKind l → Formed (overShorter l (l .dense - 1) (l .rows))
+      by (is-dense k) = dense-framed frame k (omega (arith, s .form .dense-all k, shortened-length (l .shape))) (s .form .sparse-rows (λ e. omega arith))
       by (is-diagonal k) =
-          diagonal-framed frame k (rw (same-width g) (s .form .diagonal-wide k))
-          (rw (same-width g, take-take (width l) (rank l - 1) (l .shape) (omega arith)) (s .form .diagonal-alike k)) refl
-      by (is-sparse k) = sparse-framed frame k (omega (arith, shortened-length (l .shape), s .form .dense-most)) refl (each-nil _) (each-nil _)
+          diagonal-framed frame k (rw (same-width (s .form) g) (s .form .diagonal-wide k))
+          (rw (same-width (s .form) g, take-take (width l) (rank l - 1) (l .shape) (omega arith)) (s .form .diagonal-alike k)) (s .form .sparse-rows (λ e. omega arith))
+      by (is-sparse k) =
+          sparse-framed frame k (omega (arith, shortened-length (l .shape), s .form .dense-most)) (s .form .rows-distinct)
+          (rw (same-width (s .form) g) (s .form .row-lengths))
+          (λ r m. rw take-length at (take-below (length r) (rank l - 1) r (l .shape) (s .form .rows-below r m)))
 
   -- a diagonal without dense axes, of rank above 2
   diagonal-sound : l .kind ≡ 1 → l .dense ≡ 0 → 2 < rank l → Sound (overShorter l 0 [])
@@ -147,7 +163,7 @@ module _ {l : Layout} (s : Sound l) (h : 0 < rank l) where
   contracted-sound = by (compareNumbers 0 (l .dense)) (one-kind (s .form))
     where
       lower : 0 < l .dense → Sound (contracted l)
-      lower g = rw (contracted-dense-axis l (true-either (isDense l) (ltb 0 (l .dense)) (λ _. lt-ltb 0 (l .dense) g))) (fewer-sound g)
+      lower g = rw (contracted-dense-axis l g) (fewer-sound g)
 
       diagonal : l .kind ≡ 1 → l .dense ≡ 0 → ComparedNumbers 2 (rank l) → Sound (contracted l)
       diagonal k z (under g) = rw (contracted-diagonal l k z g) (diagonal-sound k z g)
@@ -182,20 +198,21 @@ shortened-low = changed-sorted-low shortened (λ i. take-low (length i - 1) i)
 
 -- they are below 2 ^ 31 if they were
 pub contracted-low : {l : Layout} → DepsLow l → DepsLow (contracted l)
-unfolding contracted toDense
-contracted-low {l} p = go (isDense l || ltb 0 (l .dense)) (isDiagonal l) (ltb 2 (rank l))
+unfolding toDense
+contracted-low {l} p = contracted-cases l DepsLow (shorter (l .dense - 1) (l .rows)) (shorter 0 []) (dense []) (shorter 0 rows) (dense rows)
   where
-    shorter : (d : ℕ) (rows : List (List ℕ)) → DepsLow (overShorter l d rows)
-    shorter d rows = record { states-low = shortened-low (p .states-low); inputs-low = shortened-low (p .inputs-low) }
-
-    dense : (d : ℕ) (rows : List (List ℕ)) → DepsLow (toDense (overShorter l d rows))
-    dense d rows = record { states-low = shortened-low (p .states-low); inputs-low = shortened-low (p .inputs-low) }
-
     rows : List (List ℕ)
     rows = sorted (map shortened (l .rows))
 
-    go : (s t u : Bool) → DepsLow (if s (overShorter l (l .dense - 1) []) (if t (if u (overShorter l 0 []) (toDense (overShorter l 0 []))) (denseIfFull (overShorter l 0 rows))))
-    go true t u = shorter (l .dense - 1) []
-    go false true true = shorter 0 []
-    go false true false = dense 0 []
-    go false false u = if-full DepsLow (overShorter l 0 rows) (shorter 0 rows) (dense 0 rows)
+    shorter : (d : ℕ) (rows : List (List ℕ)) → DepsLow (overShorter l d rows)
+    shorter d rows = record { states-low = shortened-low (p .states-low); inputs-low = shortened-low (p .inputs-low) }
+
+    dense : (rows : List (List ℕ)) → DepsLow (toDense (overShorter l 0 rows))
+    dense rows = record { states-low = shortened-low (p .states-low); inputs-low = shortened-low (p .inputs-low) }
+
+-- ---- its order
+
+-- rows that increase do so in the contracted layout too
+pub contracted-in-order : (l : Layout) → Increasing (l .rows) → Increasing (contracted l .rows)
+unfolding toDense
+contracted-in-order l i = contracted-cases l (λ x. Increasing (x .rows)) i increasing-nil increasing-nil (sorted-increasing (map shortened (l .rows))) increasing-nil

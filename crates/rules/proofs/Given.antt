@@ -8,6 +8,7 @@ use lib.IntN.{ℤ}
 use lib.ListN.{length, drop}
 use Rattle.rules.specs.declared.Mode.{Mode}
 use Rattle.rules.specs.Lists.{if, all, none, fitTo}
+use Rattle.rules.specs.RowsInOrder.{Increasing}
 use Rattle.rules.specs.Refusals.{Verdict, given, refused, _then_, Reason, _when_, lowest}
 use Rattle.rules.specs.Layout.{Layout, rank, isSparse, withDeps, made}
 use Rattle.rules.specs.Soundness.{DepsLow, Sound}
@@ -18,7 +19,7 @@ use Rattle.rules.specs.FilterDepsFrom.{cannotCut, filterDepsFrom}
 use Rattle.rules.specs.Stretching.{sharedAxesFit, stretched, broadcastToShape, broadcastToRank}
 use Rattle.rules.proofs.Made.{made-sound}
 use Rattle.rules.proofs.Unions.{never}
-use Rattle.rules.proofs.Contracting.{contracted-low}
+use Rattle.rules.proofs.Contracting.{contracted-low, contracted-in-order}
 use Rattle.rules.proofs.Permuting.{permuted-low}
 use Rattle.rules.proofs.Ranging.{cutStates, cutInputs, filtered-low}
 use Rattle.rules.proofs.StretchedAnswers.{stretched-low}
@@ -52,6 +53,10 @@ module _ (l : Layout) {x : Layout} (e : contractLastAxis l ≡ given x) where
   -- and its dependencies' numbers are below 2 ^ 31
   pub contract-low : DepsLow l → DepsLow x
   contract-low p = made-given DepsLow (λ _. contracted-low p) contract-made
+
+  -- and its rows increase if they did
+  pub contract-in-order : Increasing (l .rows) → Increasing (x .rows)
+  contract-in-order i = made-given (λ y. Increasing (y .rows)) (λ _. contracted-in-order l i) contract-made
 
 -- ---- `permute`
 

@@ -67,8 +67,13 @@ pub record Table : Type 0 where
       ≡ given (layout 0 1 (2 ∷ []) [] (dep 0 7 ∷ dep 1 7 ∷ dep 5 7 ∷ []))
   pub outside-together : broadcastToShape Together (layout 0 1 (1 ∷ []) [] (dep 5 7 ∷ [])) (2 ∷ [])
       ≡ given (layout 0 1 (2 ∷ []) [] (dep 0 7 ∷ dep 1 7 ∷ []))
-  -- P7: a dense axis contracted leaves no rows
-  pub p7 : contractLastAxis (layout 2 1 (two 2 2) ((1 ∷ []) ∷ []) []) ≡ given (layout 2 0 (2 ∷ []) [] [])
+  -- P7: a dense axis contracted leaves the rows as they are
+  pub p7 : contractLastAxis (layout 2 1 (two 2 2) ((1 ∷ []) ∷ []) []) ≡ given (layout 2 0 (2 ∷ []) ((1 ∷ []) ∷ []) [])
+  -- in their order, and sparse even where they fill the shape
+  pub rows-in-their-order : contractLastAxis (layout 2 1 (two 2 3) ((1 ∷ []) ∷ (0 ∷ []) ∷ []) [])
+      ≡ given (layout 2 0 (2 ∷ []) ((1 ∷ []) ∷ (0 ∷ []) ∷ []) [])
+  -- over an extent 0 too, where nothing was held
+  pub empty-axis : contractLastAxis (layout 2 1 (two 2 0) ((1 ∷ []) ∷ []) []) ≡ given (layout 2 0 (2 ∷ []) ((1 ∷ []) ∷ []) [])
   -- P8: no blocks make the scalar
   pub p8 : inForm encode (concatenate [] 3) ≡ given (zeros 6)
   -- P9: permuted rows are not sorted, and a lookup there is refused
@@ -117,6 +122,8 @@ table = record {
   outside-alone = refl;
   outside-together = refl;
   p7 = refl;
+  rows-in-their-order = refl;
+  empty-axis = refl;
   p8 = refl;
   p9 = refl;
   p9-lookup = refl;

@@ -33,11 +33,11 @@ overShorter l d rows = record {
   inputs = shortenedDeps (l .inputs);
 }
 
--- dense stays dense; D > 0: D - 1, and no rows; diagonal, D = 0: diagonal if R > 2, else dense;
+-- dense stays dense; D > 0: D - 1, and a sparse one keeps its rows in their order; diagonal, D = 0: diagonal if R > 2, else dense;
 -- sparse, D = 0: rows shortened, sorted, once each, and dense if as many as the new product
 unfoldable pub contracted : Layout → Layout
 contracted l =
-    if (isDense l || ltb 0 (l .dense)) (overShorter l (l .dense - 1) [])
+    if (isDense l || ltb 0 (l .dense)) (overShorter l (l .dense - 1) (l .rows))
     (if (isDiagonal l) (if (ltb 2 (rank l)) (overShorter l 0 []) (toDense (overShorter l 0 [])))
     (denseIfFull (overShorter l 0 (sorted (map shortened (l .rows))))))
 
