@@ -24,7 +24,7 @@ IN_PORT = tuple(REFUSALS)
 # the operations that came with later requests
 LATER = (32, 33, 34)
 # the later requests that are in force, as the reading is told
-os.environ['LANDED'] = 'Q-1 Q-2'
+os.environ['LANDED'] = 'Q-1 Q-2 Q-9'
 
 
 def need_rust():

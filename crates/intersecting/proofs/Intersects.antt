@@ -16,14 +16,13 @@ use Rattle.rules.specs.Soundness.{DepsFit, DepsLow, WellFormed, Sound}
 use Rattle.rules.specs.Dependencies.{filterDeps, barsFilter}
 use Rattle.rules.specs.CountsAndForms.{toDense, denseIfFull}
 use Rattle.rules.specs.Removal.{listsRow, removeDenseAxes}
-use Rattle.rules.specs.Pairs.{withMerged, alikeDiagonals, expanded, lowered, lowerD, barsExpansion, fewOf, unlessDenseRemoved}
+use Rattle.rules.specs.Pairs.{withMerged, alikeDiagonals, expanded, lowered, lowerD, barsExpansion, fewOf}
 use Rattle.rules.specs.Intersect.{filteredBy, barsMerged, withDense, common, intersectOfRows, intersect}
 use Rattle.rules.proofs.Order.{ComparedNumbers, under, even, above, compareNumbers}
 use Rattle.rules.proofs.Same.{neither, same-true}
 use Rattle.rules.proofs.Sorting.{sorted-each, sorted-sorted}
 use Rattle.rules.proofs.Keeping.{keep-only}
 use Rattle.rules.proofs.Soundness.{OneKind, is-dense, is-diagonal, is-sparse, one-kind}
-use Rattle.rules.proofs.DenseRemoved.{none-removed}
 use Rattle.rules.proofs.Made.{fewOr, Formed, sound-formed, formed-made, formed-deps, formed-merged}
 use Rattle.rules.proofs.Forming.{DepsOfRank, Framed, states-of-rank, inputs-of-rank, sparse-framed, if-full}
 use Rattle.rules.proofs.Lowering.{expands-dense, lowered-diagonal, lowered-same, lowered-removed, Lowered, lowered-is}
@@ -203,11 +202,11 @@ module _ {a b : Layout} (p : Sound a) (q : Sound b) (e : same (a .shape) (b .sha
         rows-told = rw (by-rows a b e f g, h, meets-is ∙ i, j) (judged (fewOf x && fewOf y))
           where
             ended : (t : Bool) → made (commonOf a b d) ≡ if t (given (commonOf a b d)) (refused 13) →
-                (inForm denseIfFull (made (commonOf a b d)) then λ l. unlessDenseRemoved a b l) ≡ if t (given (denseIfFull (commonOf a b d))) (refused 13)
-            ended true k = none-removed a b f (inForm denseIfFull (made (commonOf a b d))) ∙ rw k
-            ended false k = none-removed a b f (inForm denseIfFull (made (commonOf a b d))) ∙ rw k
+                inForm denseIfFull (made (commonOf a b d)) ≡ if t (given (denseIfFull (commonOf a b d))) (refused 13)
+            ended true k = rw k
+            ended false k = rw k
 
-            judged : (t : Bool) → (lowest (13 when not t ∷ []) then λ _. inForm denseIfFull (made (commonOf a b d)) then λ l. unlessDenseRemoved a b l)
+            judged : (t : Bool) → (lowest (13 when not t ∷ []) then λ _. inForm denseIfFull (made (commonOf a b d)))
                 ≡ if (t && fewOf (commonOf a b d)) (given (denseIfFull (commonOf a b d))) (refused 13)
             judged true = ended (fewOf (commonOf a b d)) (formed-made common-formed)
             judged false = refl

@@ -22,6 +22,5 @@ pub fn number_of(reason: Refusal) -> i32
         Refusal::DenseAxes => 11,
         Refusal::MadeUnsound => 12,
         Refusal::MadeTooLarge => 13,
-        Refusal::DenseRemoved => 14,
     }
 }

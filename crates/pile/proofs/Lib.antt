@@ -8,7 +8,6 @@
 --     Calling      that it is what `exchangeCall` asks
 --     Going        exchanges one after the other
 --     Determined   two outcomes that a contract allows are equal
---     Never14      what is made of two slots is not refused with 14
 pub mod Places
 pub mod Storing
 pub mod Uniting
@@ -18,4 +17,3 @@ pub mod Exchanging
 pub mod Calling
 pub mod Going
 pub mod Determined
-pub mod Never14

@@ -1,12 +1,13 @@
--- What the contract of a call determines: two outcomes that it allows are equal. Assumes nothing.
+-- What the contract of a call determines: two outcomes that it allows are equal; and the numbers of refusals. Assumes nothing.
 use mathlib.Core.Path.{_≡_, refl, sym, _∙_, ap}
 use mathlib.Core.Bool.{Bool}
 use mathlib.Core.List.{List}
-use Prim.Native.Nat.{ℕ}
+use Prim.Native.Nat.{ℕ, _≤_}
+use native.Mathlib.Omega.{arith}
 use lib.Dec.{eqb}
 use lib.IntN.{ℤ}
 use Rattle.rules.specs.declared.Refusal.{Refusal}
-use Rattle.rules.specs.declared.Refusal.the-variants.{OverCount, ShortBuffer, Unsound, Unordered, WrongArgument, ShapesDisagree, ScalarContracted, NoPermutation, SparseDivisor, Unjoinable, DenseAxes, MadeUnsound, MadeTooLarge, DenseRemoved}
+use Rattle.rules.specs.declared.Refusal.the-variants.{OverCount, ShortBuffer, Unsound, Unordered, WrongArgument, ShapesDisagree, ScalarContracted, NoPermutation, SparseDivisor, Unjoinable, DenseAxes, MadeUnsound, MadeTooLarge}
 use Rattle.rules.specs.declared.Ordering.{Ordering}
 use Rattle.rules.specs.declared.Written.{Written}
 use Rattle.rules.specs.declared.Written.the-variants.{Numbers, Refused}
@@ -30,7 +31,7 @@ refusalOf n =
     if (eqb n 1) OverCount (if (eqb n 2) ShortBuffer (if (eqb n 3) Unsound (if (eqb n 4) Unordered
     (if (eqb n 5) WrongArgument (if (eqb n 6) ShapesDisagree (if (eqb n 7) ScalarContracted (if (eqb n 8) NoPermutation
     (if (eqb n 9) SparseDivisor (if (eqb n 10) Unjoinable (if (eqb n 11) DenseAxes (if (eqb n 12) MadeUnsound
-    (if (eqb n 13) MadeTooLarge DenseRemoved))))))))))))
+    MadeTooLarge)))))))))))
 
 refusal-known : (x : Refusal) → refusalOf (numberOf x) ≡ x
 unfolding numberOf refusalOf
@@ -47,7 +48,23 @@ refusal-known Unjoinable = refl
 refusal-known DenseAxes = refl
 refusal-known MadeUnsound = refl
 refusal-known MadeTooLarge = refl
-refusal-known DenseRemoved = refl
+
+-- the numbers are 1 to 13
+pub number-in-table : (x : Refusal) → (1 ≤ numberOf x) × (numberOf x ≤ 13)
+unfolding numberOf
+number-in-table OverCount = omega arith
+number-in-table ShortBuffer = omega arith
+number-in-table Unsound = omega arith
+number-in-table Unordered = omega arith
+number-in-table WrongArgument = omega arith
+number-in-table ShapesDisagree = omega arith
+number-in-table ScalarContracted = omega arith
+number-in-table NoPermutation = omega arith
+number-in-table SparseDivisor = omega arith
+number-in-table Unjoinable = omega arith
+number-in-table DenseAxes = omega arith
+number-in-table MadeUnsound = omega arith
+number-in-table MadeTooLarge = omega arith
 
 -- ---- an answer is known by what it says
 

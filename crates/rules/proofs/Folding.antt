@@ -10,26 +10,22 @@ use Rattle.rules.specs.declared.Rule.{Rule}
 use Rattle.rules.specs.declared.Rule.the-variants.{Unite, Multiply, Divide}
 use Rattle.rules.specs.Lists.{if, same, keep, product}
 use Rattle.rules.specs.RowsInOrder.{among, Increasing, increasing-nil}
-use Rattle.rules.specs.Refusals.{Verdict, given, _then_, inForm, _when_}
+use Rattle.rules.specs.Refusals.{given, _when_}
 use Rattle.rules.specs.Layout.{Layout, rank, isDense, isSparse, few, made}
 use Rattle.rules.specs.CountsAndForms.{toDense, denseIfFull}
-use Rattle.rules.specs.Removal.{listsRow, removesDense}
-use Rattle.rules.specs.Pairs.{withMerged, alikeDiagonals, lowered, lowerD, barsExpansion, fewOf, unlessDenseRemoved}
-use Rattle.rules.specs.Union.{joined, unionOfRows, union}
+use Rattle.rules.specs.Removal.{listsRow}
+use Rattle.rules.specs.Pairs.{alikeDiagonals, lowered, lowerD, barsExpansion, fewOf}
+use Rattle.rules.specs.Union.{unionOfRows, union}
 use Rattle.rules.specs.Intersect.{filteredBy, barsMerged, withDense, common, intersectOfRows, intersect}
 use Rattle.rules.specs.Stretching.{sharedAxesFit, stretched, broadcastToShape}
 use Rattle.rules.specs.Broadcast.{combine}
 use Rattle.rules.proofs.Sorting.{sorted-increasing}
-use Rattle.rules.proofs.Giving.{Giving, given-such, giving-if, giving-then, giving-step, giving-form, giving-made}
+use Rattle.rules.proofs.Giving.{Giving, given-such, giving-if, giving-step, giving-form, giving-made}
 
 -- ---- rows stay in order
 
 abbrev InOrder : Layout → Type 0
 InOrder l = Increasing (l .rows)
-
--- the end of a step of two layouts gives what was made
-kept-order : (a b : Layout) (v : Verdict Layout) → Giving InOrder v → Giving InOrder (v then λ l. unlessDenseRemoved a b l)
-kept-order a b v p = giving-then InOrder InOrder v (λ l. unlessDenseRemoved a b l) p (λ l q. giving-step InOrder (14 when (removesDense a (lowerD a b) || removesDense b (lowerD a b)) ∷ []) (given l) q)
 
 -- rows that are in order, or none at all
 full-order : (l : Layout) → InOrder l → InOrder (denseIfFull l)
@@ -52,7 +48,7 @@ module _ (a b : Layout) (p : InOrder a) (q : InOrder b) where
       (λ _. giving-if InOrder (alikeDiagonals a b) _ _ (λ _. giving-made InOrder _ (λ _. p))
       (λ _. giving-step InOrder
       (11 when (barsExpansion a || barsExpansion b) ∷ 12 when (listsRow a d || listsRow b d) ∷ 13 when not (few (x .rows) && few (y .rows)) ∷ []) _
-      (kept-order a b (made (withMerged a b (joined x y))) (giving-made InOrder _ (λ _. sorted-increasing (x .rows ++ y .rows)))))))
+      (giving-made InOrder _ (λ _. sorted-increasing (x .rows ++ y .rows))))))
 
   intersect-in-order : Giving InOrder (intersect a b)
   unfolding intersect withDense intersectOfRows
@@ -66,9 +62,8 @@ module _ (a b : Layout) (p : InOrder a) (q : InOrder b) where
       (λ _. giving-if InOrder (alikeDiagonals a b) _ _ (λ _. giving-made InOrder _ (λ _. p))
       (λ _. giving-step InOrder
       (11 when (barsExpansion a || barsExpansion b || barsMerged x y (common x y)) ∷ 12 when (listsRow a d || listsRow b d) ∷ 13 when not (fewOf x && fewOf y) ∷ []) _
-      (kept-order a b (inForm denseIfFull (made (filteredBy x y (common x y))))
       (giving-form InOrder denseIfFull (made (filteredBy x y (common x y)))
-      (giving-made (λ l. InOrder (denseIfFull l)) _ (λ _. full-order (filteredBy x y (common x y)) (sorted-increasing (keep (λ r. among r (y .rows)) (x .rows)))))))))))
+      (giving-made (λ l. InOrder (denseIfFull l)) _ (λ _. full-order (filteredBy x y (common x y)) (sorted-increasing (keep (λ r. among r (y .rows)) (x .rows))))))))))
 
   -- what two layouts in order are combined to is in order
   pub combine-in-order : (rule : Rule) {l : Layout} → combine rule a b ≡ given l → InOrder l

@@ -6,7 +6,7 @@ use Prim.Native.Nat.{ℕ}
 use native.Mathlib.Omega.{arith}
 use borrow.Author.Tests.{eqb-true, eqb-false}
 use lib.ListN.{take}
-use Rattle.rules.specs.Lists.{if, keep, same}
+use Rattle.rules.specs.Lists.{if, keep}
 use Rattle.rules.specs.RowsInOrder.{sorted, among}
 use Rattle.rules.specs.Refusals.{Verdict, given, refused, inForm, _then_, _when_, lowest}
 use Rattle.rules.specs.Layout.{Layout, width, isDense, made}
@@ -14,9 +14,9 @@ use Rattle.rules.specs.Soundness.{WellFormed, Sound}
 use Rattle.rules.specs.CountsAndForms.{denseIfFull}
 use Rattle.rules.specs.Removal.{listsRow}
 use Rattle.rules.specs.Holding.{isPosition, holds}
-use Rattle.rules.specs.Pairs.{withMerged, alikeDiagonals, lowered, lowerD, barsExpansion, fewOf, unlessDenseRemoved}
+use Rattle.rules.specs.Pairs.{withMerged, alikeDiagonals, lowered, lowerD, barsExpansion, fewOf}
 use Rattle.rules.specs.Intersect.{filteredBy, barsMerged, withDense, common, intersectOfRows, intersect}
-use Rattle.rules.proofs.Same.{both-true, neither, decided, same-true}
+use Rattle.rules.proofs.Same.{both-true, neither, true-not-false, decided}
 use Rattle.rules.proofs.Sets.{among-in, in-among}
 use Rattle.rules.proofs.Sorting.{sorted-has, sorted-only}
 use Rattle.rules.proofs.Keeping.{keep-only, keep-passes, keep-has}
@@ -24,7 +24,7 @@ use Rattle.rules.proofs.Tests.{true-both}
 use Rattle.rules.proofs.Holding.{true-position, holds-position, holds-dense, holds-sparse}
 use Rattle.rules.proofs.Made.{made-sound}
 use Rattle.rules.proofs.Forming.{full-sound}
-use Rattle.rules.proofs.DenseRemoved.{before-removed}
+use Rattle.rules.proofs.ToRows.{CombinedBy, shapes-disagree, one-dense, two-diagonals, neither-dense, intersect-by}
 use Rattle.rules.proofs.Lowering.{Lowered, lowered-is}
 use Rattle.rules.proofs.Unions.{never}
 use Rattle.rules.proofs.UnionHolds.{deps-hold, diagonals-hold}
@@ -91,27 +91,28 @@ module _ (a b : Layout) (e : a .shape ≡ b .shape) {l : Layout} where
       full i j (refused n) k h = absurd (never h)
 
       go : (p q t u : Bool) → barsExpansion a || barsExpansion b ≡ p → listsRow a d || listsRow b d ≡ t →
-          (lowest (11 when (p || q) ∷ 12 when t ∷ 13 when u ∷ []) then λ _. inForm denseIfFull (made (commonOf a b)) then λ z. unlessDenseRemoved a b z) ≡ given l →
+          (lowest (11 when (p || q) ∷ 12 when t ∷ 13 when u ∷ []) then λ _. inForm denseIfFull (made (commonOf a b))) ≡ given l →
           Intersected a b l
       go true q t u i j h = absurd (never h)
       go false true t u i j h = absurd (never h)
       go false false true u i j h = absurd (never h)
       go false false false true i j h = absurd (never h)
-      go false false false false i j h = full i j (made (commonOf a b)) refl (before-removed a b (inForm denseIfFull (made (commonOf a b))) h)
+      go false false false false i j h = full i j (made (commonOf a b)) refl h
 
 -- an answer of `intersect` is such
 pub intersect-gives : (a b : Layout) {l : Layout} → intersect a b ≡ given l → Intersected a b l
-unfolding intersect lowest
-intersect-gives a b {l} g = go (same (a .shape) (b .shape)) (isDense a) (isDense b) (alikeDiagonals a b) refl refl refl refl g
+intersect-gives a b {l} g = go (intersect-by a b) g
   where
-    go : (s t u v : Bool) → same (a .shape) (b .shape) ≡ s → isDense a ≡ t → isDense b ≡ u → alikeDiagonals a b ≡ v →
-        (lowest (6 when not s ∷ []) then λ _. if t (withDense a b b) (if u (withDense a b a) (if v (made (withMerged a b a)) (intersectOfRows a b)))) ≡ given l →
-        Intersected a b l
-    go false t u v e i j k h = absurd (never h)
-    go true true u v e i j k h = dense-met a b (same-true e) b (of-right i) h
-    go true false true v e i j k h = dense-met a b (same-true e) a (of-left j) h
-    go true false false true e i j k h = made-met a b (same-true e) (of-diagonals k) h
-    go true false false false e i j k h = rows-met a b (same-true e) (rw (i, j)) h
+    other : a .shape ≡ b .shape → (s t : Bool) → isDense a ≡ s → isDense b ≡ t → s || t ≡ true → if s (withDense a b b) (withDense a b a) ≡ given l → Intersected a b l
+    other e true t i j f h = dense-met a b e b (of-right i) h
+    other e false true i j f h = dense-met a b e a (of-left j) h
+    other e false false i j f h = absurd (true-not-false f refl)
+
+    go : {v : Verdict Layout} → CombinedBy a b (if (isDense a) (withDense a b b) (withDense a b a)) (intersectOfRows a b) v → v ≡ given l → Intersected a b l
+    go (shapes-disagree e) h = absurd (never h)
+    go (one-dense e f) h = other e (isDense a) (isDense b) refl refl f h
+    go (two-diagonals e f) h = made-met a b e (of-diagonals f) h
+    go (neither-dense e f k) h = rows-met a b e f h
 
 -- an answer is sound
 pub intersect-sound : (a b : Layout) {l : Layout} → intersect a b ≡ given l → Sound l

@@ -6,7 +6,8 @@
 --     Ranges, Largest, Indices                                     numbers in a row, the largest of some, every index of a shape in order
 --     Before, Alike, Finding, Holding, Found, Counting             what is held, found and counted
 --     Made, Forming, Changed                                       a layout that is made: when it is formed, kind by kind
---     DenseRemoved, Once, Lowering, Listed,
+--     ToRows                                                       by which rule any two layouts are united or intersected
+--     Once, Lowering, Listed,
 --     Unions, UnionHolds, Low                                      the union of two sound layouts by plain cases, and what it holds
 --     Contracting, Moved, Permuting, Replaced, Ranging,
 --     Gathering, Taking, Axes, Stretching, Yielding,
@@ -23,10 +24,10 @@
 --     Piles                                                        the pile: any exchanges keep its counts
 --     Slots, PileRecords, RecordPiles                              the same of records in the slots of a slice
 --     PileByHand                                                   a pile exchanged by hand
---     Determined                                                   two outcomes that a contract allows are equal
+--     Determined                                                   two outcomes that a contract allows are equal; the numbers of refusals are 1 to 13
 --     WorkedByHand, Examples                                       the table, and examples of every operation
 --     Refusing, RefusedWith, BroadcastRefused,
---     ConcatenateRefused, Never14                                  which numbers are given, and that 14 never is
+--     ConcatenateRefused                                           which numbers are given
 pub mod Order
 pub mod Same
 pub mod Sets
@@ -57,7 +58,7 @@ pub mod Counting
 pub mod Made
 pub mod Forming
 pub mod Changed
-pub mod DenseRemoved
+pub mod ToRows
 pub mod Once
 pub mod Lowering
 pub mod Listed
@@ -111,5 +112,4 @@ pub mod Refusing
 pub mod RefusedWith
 pub mod BroadcastRefused
 pub mod ConcatenateRefused
-pub mod Never14
 mod Examples

@@ -11,12 +11,12 @@ use lib.ListN.{length}
 use Rattle.rules.specs.Limits.{entryLimit}
 use Rattle.rules.specs.Lists.{if, keep, product}
 use Rattle.rules.specs.RowsInOrder.{among, sorted, merge}
-use Rattle.rules.specs.Refusals.{Verdict, given, refused, _then_, lowest}
+use Rattle.rules.specs.Refusals.{Verdict, given, refused, lowest}
 use Rattle.rules.specs.Layout.{Layout, isSparse, few}
 use Rattle.rules.specs.Dependencies.{filterDeps, barsFilter}
 use Rattle.rules.specs.CountsAndForms.{toDense, denseIfFull, dense}
 use Rattle.rules.specs.Removal.{listsRow}
-use Rattle.rules.specs.Pairs.{lowered, unlessDenseRemoved}
+use Rattle.rules.specs.Pairs.{lowered}
 use Rattle.rules.specs.Union.{unionOfRows, union}
 use Rattle.rules.specs.Intersect.{withDense, intersectOfRows, intersect}
 use Rattle.rules.proofs.Same.{same-refl, true-not-false}
@@ -90,7 +90,7 @@ module _ {shape : List ℕ} (g : Good shape) where
           rw (same-refl shape, le-leb (length r) entryLimit m, le-leb (length s) entryLimit n, formed-made (listed-formed g (ordered-merged x y)))
           (counted (few (merge r s)))
         where
-          counted : (b : Bool) → (if (b && true && true) (given (listing shape (merge r s))) (refused 13) then λ l. unlessDenseRemoved (listing shape r) (listing shape s) l)
+          counted : (b : Bool) → (if (b && true && true) (given (listing shape (merge r s))) (refused 13))
               ≡ if b (given (listing shape (merge r s))) (refused 13)
           counted true = refl
           counted false = refl

@@ -1,6 +1,6 @@
 -- Which numbers each operation can be refused with, behind those that are judged of its arguments. Assumes nothing.
 use mathlib.Core.Path.{_≡_, refl}
-use mathlib.Core.Bool.{false, not, _&&_, _||_}
+use mathlib.Core.Bool.{not, _&&_, _||_}
 use mathlib.Core.List.{List, [], _∷_}
 use Prim.Native.Nat.{ℕ, zero, suc, _+_}
 use native.Mathlib.Omega.{arith}
@@ -14,7 +14,7 @@ use Rattle.rules.specs.Layout.{Layout, rank, isDense, isSparse, few, mad
 use Rattle.rules.specs.Soundness.{Sound}
 use Rattle.rules.specs.CountsAndForms.{denseIfFull}
 use Rattle.rules.specs.Removal.{listsRow}
-use Rattle.rules.specs.Pairs.{withMerged, alikeDiagonals, lowered, lowerD, barsExpansion, fewOf, unlessDenseRemoved}
+use Rattle.rules.specs.Pairs.{withMerged, alikeDiagonals, lowered, lowerD, barsExpansion, fewOf}
 use Rattle.rules.specs.Union.{joined, unionOfRows, union}
 use Rattle.rules.specs.Intersect.{filteredBy, barsMerged, withDense, common, intersectOfRows, intersect}
 use Rattle.rules.specs.ContractLastAxis.{contractLastAxis}
@@ -22,7 +22,6 @@ use Rattle.rules.specs.Permute.{isPermutation, permute}
 use Rattle.rules.specs.FilterDepsFrom.{cannotCut, filterDepsFrom}
 use Rattle.rules.specs.Stretching.{sharedAxesFit, broadcastToShape, broadcastToRank}
 use Rattle.rules.proofs.Refusing.{Refusing, Reasons, refusing-if, refusing-then, refusing-form, refusing-lowest, refusing-made}
-use Rattle.rules.proofs.DenseRemoved.{none-removed}
 use Rattle.rules.proofs.Contracting.{contract-scalar, contract-given}
 
 -- reasons of which P holds, and then such a verdict
@@ -36,11 +35,6 @@ module _ (P : ℕ → Type 0) (p6 : P 6) (p11 : P 11) (p12 : P 12) (p13 : P 13) 
   refusing-layout : (l : Layout) → Refusing P (made l)
   refusing-layout = refusing-made P p12 p13
 
-  -- two layouts of which none is dense, brought to rows: such reasons, and what is made of them
-  refusing-rows : isDense a || isDense b ≡ false → (reasons : List Reason) → Reasons P reasons → (v : Verdict Layout) → Refusing P v →
-      Refusing P (lowest reasons then λ _. v then λ l. unlessDenseRemoved a b l)
-  refusing-rows f reasons p v q = refusing-step P reasons p (v then λ l. unlessDenseRemoved a b l) (rw (none-removed a b f v) q)
-
   -- `union`
   pub union-refusing : Refusing P (union a b)
   unfolding union unionOfRows
@@ -50,8 +44,8 @@ module _ (P : ℕ → Type 0) (p6 : P 6) (p11 : P 11) (p12 : P 12) (p13 : P 13) 
       let y : Layout = lowered b d in
       refusing-step P (6 when not (same (a .shape) (b .shape)) ∷ []) (p6, tt) _
       (refusing-if P (isDense a || isDense b) _ _ (λ _. refusing-layout _)
-      (λ f. refusing-if P (alikeDiagonals a b) _ _ (λ _. refusing-layout _)
-      (λ _. refusing-rows f
+      (λ _. refusing-if P (alikeDiagonals a b) _ _ (λ _. refusing-layout _)
+      (λ _. refusing-step P
       (11 when (barsExpansion a || barsExpansion b) ∷ 12 when (listsRow a d || listsRow b d) ∷ 13 when not (few (x .rows) && few (y .rows)) ∷ [])
       (p11, (p12, (p13, tt))) (made (withMerged a b (joined x y))) (refusing-layout _))))
 
@@ -60,14 +54,14 @@ module _ (P : ℕ → Type 0) (p6 : P 6) (p11 : P 11) (p12 : P 12) (p13 : P 13) 
   unfolding withDense
   refusing-with-dense other = refusing-step P (11 when barsMerged a b other ∷ []) (p11, tt) _ (refusing-layout _)
 
-  -- `intersect` of rows, where none is dense
-  refusing-common : isDense a || isDense b ≡ false → Refusing P (intersectOfRows a b)
+  -- `intersect` of rows
+  refusing-common : Refusing P (intersectOfRows a b)
   unfolding intersectOfRows
-  refusing-common f =
+  refusing-common =
       let d : ℕ = lowerD a b in
       let x : Layout = lowered a d in
       let y : Layout = lowered b d in
-      refusing-rows f
+      refusing-step P
       (11 when (barsExpansion a || barsExpansion b || barsMerged x y (common x y)) ∷ 12 when (listsRow a d || listsRow b d) ∷ 13 when not (fewOf x && fewOf y) ∷ [])
       (p11, (p12, (p13, tt))) (inForm denseIfFull (made (filteredBy x y (common x y)))) (refusing-form P denseIfFull (made _) (refusing-layout _))
 
@@ -77,9 +71,8 @@ module _ (P : ℕ → Type 0) (p6 : P 6) (p11 : P 11) (p12 : P 12) (p13 : P 13) 
   intersect-refusing =
       refusing-step P (6 when not (same (a .shape) (b .shape)) ∷ []) (p6, tt) _
       (refusing-if P (isDense a) _ _ (λ _. refusing-with-dense b)
-      (λ f. refusing-if P (isDense b) _ _ (λ _. refusing-with-dense a)
-      (λ g. refusing-if P (alikeDiagonals a b) _ _ (λ _. refusing-layout _)
-      (λ _. refusing-common (rw (f, g))))))
+      (λ _. refusing-if P (isDense b) _ _ (λ _. refusing-with-dense a)
+      (λ _. refusing-if P (alikeDiagonals a b) _ _ (λ _. refusing-layout _) (λ _. refusing-common))))
 
 -- ---- one layout
 

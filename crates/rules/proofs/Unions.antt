@@ -6,20 +6,20 @@ use Prim.Native.Nat.{ℕ, _≤_}
 use native.Mathlib.Omega.{arith}
 use borrow.Author.Tests.{leb-false, lt-leb, eqb-false}
 use lib.ListN.{length}
-use Rattle.rules.specs.Lists.{if, same}
+use Rattle.rules.specs.Lists.{same}
 use Rattle.rules.specs.RowsInOrder.{merge}
-use Rattle.rules.specs.Refusals.{given, refused, _then_, _when_, lowest}
+use Rattle.rules.specs.Refusals.{Verdict, given, refused, _then_, _when_, lowest}
 use Rattle.rules.specs.Layout.{Layout, rank, isDense, few, withDeps, made}
 use Rattle.rules.specs.Soundness.{Sound}
 use Rattle.rules.specs.CountsAndForms.{toDense}
 use Rattle.rules.specs.Removal.{listsRow}
-use Rattle.rules.specs.Pairs.{withMerged, alikeDiagonals, lowered, lowerD, barsExpansion, unlessDenseRemoved}
+use Rattle.rules.specs.Pairs.{withMerged, alikeDiagonals, lowered, lowerD, barsExpansion}
 use Rattle.rules.specs.Union.{joined, unionOfRows, union}
 use Rattle.rules.proofs.Same.{neither, true-not-false, same-true}
 use Rattle.rules.proofs.Sets.{each-append}
 use Rattle.rules.proofs.Sorting.{sorted-each, sorted-sorted}
 use Rattle.rules.proofs.Merging.{merge-length-left, merge-length-right}
-use Rattle.rules.proofs.DenseRemoved.{none-removed, before-removed}
+use Rattle.rules.proofs.ToRows.{CombinedBy, shapes-disagree, one-dense, two-diagonals, neither-dense, union-by}
 use Rattle.rules.proofs.Once.{Once, once-distinct}
 use Rattle.rules.proofs.Made.{fewOr, Formed, sound-formed, formed-made, made-sound, formed-merged}
 use Rattle.rules.proofs.Forming.{sound-framed, to-dense-framed}
@@ -143,8 +143,8 @@ module _ {a b : Layout} (p : Sound a) (q : Sound b) (e : same (a .shape) (b .sha
       right = lowered-is (q .form) (eqb-false (b .kind) 0 (plain .1)) (omega arith) (free .1) (bare .1)
 
       judged : (t : Bool) → few (x .rows) && few (y .rows) ≡ t →
-          (lowest (13 when not t ∷ []) then λ _. made (withMerged a b (joined x y)) then λ l. unlessDenseRemoved a b l) ≡ fewOr (withMerged a b (joined x y))
-      judged true k = none-removed a b f (made (withMerged a b (joined x y))) ∙ formed-made (formed-merged p q (ap length (left .shape-is)) (ap length (left .shape-is) ∙ ranks) (joined-formed p (same-true e) (omega arith) left right))
+          (lowest (13 when not t ∷ []) then λ _. made (withMerged a b (joined x y))) ≡ fewOr (withMerged a b (joined x y))
+      judged true k = formed-made (formed-merged p q (ap length (left .shape-is)) (ap length (left .shape-is) ∙ ranks) (joined-formed p (same-true e) (omega arith) left right))
       judged false k = rw (few-joined (left .rows-once) (right .rows-once) k)
 
 -- ---- what is given
@@ -165,8 +165,8 @@ pub record Gives (a b l : Layout) : Type 0 where
 
 -- an answer of `union` is such
 pub union-gives : (a b : Layout) {l : Layout} → union a b ≡ given l → Gives a b l
-unfolding union unionOfRows lowest
-union-gives a b {l} e = go (same (a .shape) (b .shape)) (isDense a || isDense b) (alikeDiagonals a b) refl refl refl e
+unfolding unionOfRows lowest
+union-gives a b {l} e = go (union-by a b) e
   where
     d : ℕ
     d = lowerD a b
@@ -175,19 +175,18 @@ union-gives a b {l} e = go (same (a .shape) (b .shape)) (isDense a || isDense b)
     rows = joined (lowered a d) (lowered b d)
 
     by-rows : a .shape ≡ b .shape → isDense a || isDense b ≡ false → (s t u : Bool) → barsExpansion a || barsExpansion b ≡ s → listsRow a d || listsRow b d ≡ t →
-        (lowest (11 when s ∷ 12 when t ∷ 13 when u ∷ []) then λ _. made (withMerged a b rows) then λ x. unlessDenseRemoved a b x) ≡ given l → Gives a b l
+        (lowest (11 when s ∷ 12 when t ∷ 13 when u ∷ []) then λ _. made (withMerged a b rows)) ≡ given l → Gives a b l
     by-rows k f true t u g h e = absurd (never e)
     by-rows k f false true u g h e = absurd (never e)
     by-rows k f false false true g h e = absurd (never e)
-    by-rows k f false false false g h e = record { shapes = k; whole = rows; united = of-rows f g h; was-made = before-removed a b (made (withMerged a b rows)) e }
+    by-rows k f false false false g h e = record { shapes = k; whole = rows; united = of-rows f g h; was-made = e }
 
-    go : (s t u : Bool) → same (a .shape) (b .shape) ≡ s → isDense a || isDense b ≡ t → alikeDiagonals a b ≡ u →
-        (lowest (6 when not s ∷ []) then λ _. if t (made (withMerged a b (toDense a))) (if u (made (withMerged a b a)) (unionOfRows a b))) ≡ given l → Gives a b l
-    go false t u k f g e = absurd (never e)
-    go true true u k f g e = record { shapes = same-true k; whole = toDense a; united = of-dense f; was-made = e }
-    go true false true k f g e = record { shapes = same-true k; whole = a; united = of-diagonals g; was-made = e }
-    go true false false k f g e =
-        by-rows (same-true k) f (barsExpansion a || barsExpansion b) (listsRow a d || listsRow b d) (not (few (lowered a d .rows) && few (lowered b d .rows))) refl refl e
+    go : {v : Verdict Layout} → CombinedBy a b (made (withMerged a b (toDense a))) (unionOfRows a b) v → v ≡ given l → Gives a b l
+    go (shapes-disagree k) e = absurd (never e)
+    go (one-dense k f) e = record { shapes = k; whole = toDense a; united = of-dense f; was-made = e }
+    go (two-diagonals k g) e = record { shapes = k; whole = a; united = of-diagonals g; was-made = e }
+    go (neither-dense k f g) e =
+        by-rows k f (barsExpansion a || barsExpansion b) (listsRow a d || listsRow b d) (not (few (lowered a d .rows) && few (lowered b d .rows))) refl refl e
 
 -- an answer is sound
 pub union-sound : (a b : Layout) {l : Layout} → union a b ≡ given l → Sound l

@@ -15,7 +15,7 @@ use Rattle.rules.specs.Arguments.{upTo, goodComponents}
 use Rattle.rules.specs.Endings.{found, nothing}
 use Rattle.rules.specs.Shapes.{extents, commonShape, shapesAgree, broadcastShapes}
 use Rattle.rules.specs.Positions.{ravelIndex}
-use Rattle.rules.specs.Dependencies.{onIndex, held, filterDeps}
+use Rattle.rules.specs.Dependencies.{onIndex, held, filterDeps, barsFilter}
 use Rattle.rules.specs.Lookup.{readIndex, placeFrom, placeOf, lookup, findNnzIndexCall}
 use Rattle.rules.specs.CountsAndForms.{minRankOf, toDense, denseIfFull, dense}
 use Rattle.rules.specs.Stretching.{sharedAxesFit, stretchedAxes, everyValue, takeAll, stretchRows, yields, stretchDeps, stretched, broadcastToShape}
@@ -23,7 +23,7 @@ use Rattle.rules.specs.Removal.{positions, removedRows, removedDeps, lis
 use Rattle.rules.specs.Holding.{holds, heldPositions}
 use Rattle.rules.specs.Pairs.{lowered, expanded}
 use Rattle.rules.specs.Union.{unionOfRows, union}
-use Rattle.rules.specs.Intersect.{intersect}
+use Rattle.rules.specs.Intersect.{withDense, intersect}
 use Rattle.rules.specs.ContractLastAxis.{shortenedDeps, contracted, contractLastAxis}
 use Rattle.rules.specs.Permute.{repeats, isPermutation, movedTo, moved, permuted, permute}
 use Rattle.rules.specs.Concatenate.{concatenate}
@@ -86,9 +86,9 @@ pub record Table : Type 0 where
   -- a lowered union: dependencies are merged as they are, not expanded
   pub unexpanded : union (layout 2 1 (two 2 2) ((1 ∷ []) ∷ []) ((1 ∷ 0 ∷ 7 ∷ []) ∷ [])) (layout 2 0 (two 2 2) (two 1 0 ∷ []) [])
       ≡ given (layout 2 0 (two 2 2) (two 1 0 ∷ two 1 1 ∷ []) ((1 ∷ 0 ∷ 7 ∷ []) ∷ []))
-  -- a dense layout handed to removal is 14, where nothing lower holds
-  pub dense-removed : unionOfRows (dense (2 ∷ [])) (layout 2 0 (2 ∷ []) ((1 ∷ []) ∷ []) []) ≡ refused 14
-  pub row-outside-first : unionOfRows (dense (2 ∷ [])) (layout 2 0 (2 ∷ []) ((2 ∷ []) ∷ []) []) ≡ refused 12
+  -- a dense layout beside rows with a smaller D: its dense axes are not removed
+  pub dense-wins : union (dense (2 ∷ [])) (layout 2 0 (2 ∷ []) ((1 ∷ []) ∷ []) []) ≡ given (dense (2 ∷ []))
+  pub dense-yields : intersect (dense (2 ∷ [])) (layout 2 0 (2 ∷ []) ((1 ∷ []) ∷ []) []) ≡ given (layout 2 0 (2 ∷ []) ((1 ∷ []) ∷ []) [])
   -- a sparse [2,3] with a dense axis and the row [1] holds every position behind it, and no other
   pub holds-behind-row : holds (layout 2 1 (two 2 3) ((1 ∷ []) ∷ []) []) (two 1 2) ≡ true
   pub holds-no-row : holds (layout 2 1 (two 2 3) ((1 ∷ []) ∷ []) []) (two 0 2) ≡ false
@@ -106,7 +106,7 @@ unfolding all any keep gather none from product sum largest same sameRows allBel
     extents commonShape shapesAgree broadcastShapes ravelIndex onIndex held filterDeps
     readIndex placeFrom placeOf lookup findNnzIndexCall minRankOf toDense denseIfFull dense
     sharedAxesFit stretchedAxes everyValue takeAll stretchRows yields stretchDeps stretched broadcastToShape
-    positions removedRows removedDeps listsRow removeDenseAxes holds expanded lowered unionOfRows union intersect
+    positions removedRows removedDeps listsRow removeDenseAxes holds expanded lowered unionOfRows union barsFilter withDense intersect
     shortenedDeps contracted contractLastAxis repeats isPermutation movedTo moved permuted permute
     concatenate cutDeps filterDepsFrom
 table = record {
@@ -129,8 +129,8 @@ table = record {
   p9-lookup = refl;
   unfiltered = refl;
   unexpanded = refl;
-  dense-removed = refl;
-  row-outside-first = refl;
+  dense-wins = refl;
+  dense-yields = refl;
   holds-behind-row = refl;
   holds-no-row = refl;
   holds-outside = refl;

@@ -12,7 +12,7 @@ use Rattle.rules.specs.Arguments.{overRecord, shortResult, shortWork}
 use Rattle.rules.specs.Dependencies.{filterDeps, barsFilter}
 use Rattle.rules.specs.CountsAndForms.{denseIfFull}
 use Rattle.rules.specs.Removal.{listsRow}
-use Rattle.rules.specs.Pairs.{withMerged, alikeDiagonals, lowered, lowerD, barsExpansion, fewOf, unlessDenseRemoved}
+use Rattle.rules.specs.Pairs.{withMerged, alikeDiagonals, lowered, lowerD, barsExpansion, fewOf}
 
 -- the dependencies of two layouts merged, and filtered by a third
 abbrev pub filteredBy : Layout → Layout → Layout → Layout
@@ -48,7 +48,6 @@ intersectOfRows a b =
     ∷ 12 when (listsRow a d || listsRow b d)
     ∷ 13 when not (fewOf x && fewOf y) ∷ [])
     then λ _. inForm denseIfFull (made (filteredBy x y (common x y)))
-    then λ l. unlessDenseRemoved a b l
 
 -- unequal shapes 6; two diagonals with equal D: merged, NOT filtered
 unfoldable pub intersect : Layout → Layout → Verdict Layout

@@ -1,15 +1,14 @@
 -- What `union` and `intersect` share: which layouts are alike, dependencies merged, and a layout that is not dense brought to
 -- rows with the smaller D of the two.
-use mathlib.Core.Bool.{Bool, _&&_, _||_}
-use mathlib.Core.List.{[], _∷_, map}
+use mathlib.Core.Bool.{Bool, _&&_}
+use mathlib.Core.List.{map}
 use Prim.Native.Nat.{ℕ, min}
 use lib.ListN.{getD, replicate}
 use lib.Dec.{eqb, ltb}
 use Rattle.rules.specs.Lists.{if, below}
 use Rattle.rules.specs.RowsInOrder.{merge}
-use Rattle.rules.specs.Refusals.{Verdict, given, _then_, _when_, lowest}
 use Rattle.rules.specs.Layout.{Layout, rank, isDiagonal, few, withDeps}
-use Rattle.rules.specs.Removal.{removesDense, removeDenseAxes}
+use Rattle.rules.specs.Removal.{removeDenseAxes}
 
 -- a layout with the dependencies of two merged
 abbrev pub withMerged : Layout → Layout → Layout → Layout
@@ -45,8 +44,3 @@ barsExpansion l = isDiagonal l && ltb 0 (l .dense)
 -- 13: an expansion is counted when it is done
 abbrev pub fewOf : Layout → Bool
 fewOf l = few (l .rows) && few (l .states) && few (l .inputs)
-
--- the end of a step: the layout that it made, or 14, the highest number, if one of the two was dense and handed to removal
-abbrev pub unlessDenseRemoved : Layout → Layout → Layout → Verdict Layout
-unlessDenseRemoved a b l =
-    lowest (14 when (removesDense a (lowerD a b) || removesDense b (lowerD a b)) ∷ []) then λ _. given l

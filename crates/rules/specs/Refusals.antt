@@ -3,7 +3,7 @@ use mathlib.Core.Bool.{Bool}
 use mathlib.Core.List.{List, [], _∷_}
 use Prim.Native.Nat.{ℕ}
 use Rattle.rules.specs.declared.Refusal.{Refusal}
-use Rattle.rules.specs.declared.Refusal.the-variants.{OverCount, ShortBuffer, Unsound, Unordered, WrongArgument, ShapesDisagree, ScalarContracted, NoPermutation, SparseDivisor, Unjoinable, DenseAxes, MadeUnsound, MadeTooLarge, DenseRemoved}
+use Rattle.rules.specs.declared.Refusal.the-variants.{OverCount, ShortBuffer, Unsound, Unordered, WrongArgument, ShapesDisagree, ScalarContracted, NoPermutation, SparseDivisor, Unjoinable, DenseAxes, MadeUnsound, MadeTooLarge}
 use Rattle.rules.specs.Lists.{if}
 
 -- the table of numbers
@@ -21,7 +21,6 @@ numberOf Unjoinable = 10
 numberOf DenseAxes = 11
 numberOf MadeUnsound = 12
 numberOf MadeTooLarge = 13
-numberOf DenseRemoved = 14
 
 -- an answer, or the number of a refusal
 pub data Verdict (A : Type 0) : Type 0 where

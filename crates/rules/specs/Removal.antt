@@ -6,7 +6,7 @@ use lib.ListN.{take, drop}
 use lib.Dec.{ltb}
 use Rattle.rules.specs.Lists.{none, gather, below}
 use Rattle.rules.specs.RowsInOrder.{sortedFew}
-use Rattle.rules.specs.Layout.{Layout, rank, width, isDense}
+use Rattle.rules.specs.Layout.{Layout, rank, width}
 use Rattle.rules.specs.Dependencies.{onIndex}
 
 -- every index of a shape, in order
@@ -42,10 +42,6 @@ removedDeps l new deps =
 -- 12: it lists a row while the new D is above 0
 unfoldable pub listsRow : Layout → ℕ → Bool
 listsRow l new = ltb 0 new && ltb new (l .dense) && not (none (removedRows l new))
-
--- 14: the layout is dense, and its D is to be lowered
-abbrev pub removesDense : Layout → ℕ → Bool
-removesDense l new = isDense l && ltb new (l .dense)
 
 unfoldable pub removeDenseAxes : Layout → ℕ → Layout
 removeDenseAxes l new = record {

@@ -11,7 +11,7 @@ use Rattle.rules.specs.Record.{layoutIn, sound}
 use Rattle.rules.specs.Arguments.{overRecord, shortResult, shortWork}
 use Rattle.rules.specs.CountsAndForms.{toDense}
 use Rattle.rules.specs.Removal.{listsRow}
-use Rattle.rules.specs.Pairs.{withMerged, alikeDiagonals, lowered, lowerD, barsExpansion, unlessDenseRemoved}
+use Rattle.rules.specs.Pairs.{withMerged, alikeDiagonals, lowered, lowerD, barsExpansion}
 
 -- the rows of both joined, sorted, once each; sparse even when full
 abbrev pub joined : Layout → Layout → Layout
@@ -35,7 +35,6 @@ unionOfRows a b =
     ∷ 12 when (listsRow a d || listsRow b d)
     ∷ 13 when not (few (x .rows) && few (y .rows)) ∷ [])
     then λ _. made (withMerged a b (joined x y))
-    then λ l. unlessDenseRemoved a b l
 
 -- unequal shapes 6; dependencies are merged first and NOT expanded; a dense one wins; two diagonals with equal D give a diagonal
 unfoldable pub union : Layout → Layout → Verdict Layout

@@ -31,7 +31,6 @@ pub enum Refusal {
     DenseAxes,
     MadeUnsound,
     MadeTooLarge,
-    DenseRemoved,
 }
 
 // How two rows or two indices compare.

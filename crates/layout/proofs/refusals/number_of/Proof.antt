@@ -4,48 +4,6 @@ use Rattle.rules.specs.Refusals.{numberOf}
 use Rattle.layout.proofs.refusals.number_of.Statement.{statement}
 use Rattle.layout.proofs.refusals.number_of.Tie as tie
 
-enum-told : tie.Need-enum-told
-enum-told c = search needs
-
-enum-told-2 : tie.Need-enum-told-2
-enum-told-2 c = search needs
-
-enum-told-3 : tie.Need-enum-told-3
-enum-told-3 c = search needs
-
-enum-told-4 : tie.Need-enum-told-4
-enum-told-4 c = search needs
-
-enum-told-5 : tie.Need-enum-told-5
-enum-told-5 c = search needs
-
-enum-told-6 : tie.Need-enum-told-6
-enum-told-6 c = search needs
-
-enum-told-7 : tie.Need-enum-told-7
-enum-told-7 c = search needs
-
-enum-told-8 : tie.Need-enum-told-8
-enum-told-8 c = search needs
-
-enum-told-9 : tie.Need-enum-told-9
-enum-told-9 c = search needs
-
-enum-told-10 : tie.Need-enum-told-10
-enum-told-10 c = search needs
-
-enum-told-11 : tie.Need-enum-told-11
-enum-told-11 c = search needs
-
-enum-told-12 : tie.Need-enum-told-12
-enum-told-12 c = search needs
-
-enum-told-13 : tie.Need-enum-told-13
-enum-told-13 c = search needs
-
-enum-told-14 : tie.Need-enum-told-14
-enum-told-14 c = search needs
-
 returns : tie.Need-returns
 unfolding numberOf
 returns c = rw (c .enum-told .given .1)
@@ -98,28 +56,23 @@ returns-13 : tie.Need-returns-13
 unfolding numberOf
 returns-13 c = rw (c .enum-told13 .given .1)
 
-returns-14 : tie.Need-returns-14
-unfolding numberOf
-returns-14 c = rw (c .enum-told14 .given .1)
-
 pub number-of-spec : {M : Type 1} → statement M
 number-of-spec =
     tie.close
     (tie.spec
-    enum-told
-    enum-told-2
-    enum-told-3
-    enum-told-4
-    enum-told-5
-    enum-told-6
-    enum-told-7
-    enum-told-8
-    enum-told-9
-    enum-told-10
-    enum-told-11
-    enum-told-12
-    enum-told-13
-    enum-told-14
+    (λ c. search needs)  -- enum-told
+    (λ c. search needs)  -- enum-told-2
+    (λ c. search needs)  -- enum-told-3
+    (λ c. search needs)  -- enum-told-4
+    (λ c. search needs)  -- enum-told-5
+    (λ c. search needs)  -- enum-told-6
+    (λ c. search needs)  -- enum-told-7
+    (λ c. search needs)  -- enum-told-8
+    (λ c. search needs)  -- enum-told-9
+    (λ c. search needs)  -- enum-told-10
+    (λ c. search needs)  -- enum-told-11
+    (λ c. search needs)  -- enum-told-12
+    (λ c. search needs)  -- enum-told-13
     returns
     returns-2
     returns-3
@@ -132,5 +85,4 @@ number-of-spec =
     returns-10
     returns-11
     returns-12
-    returns-13
-    returns-14)
+    returns-13)
