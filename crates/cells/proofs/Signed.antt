@@ -12,10 +12,11 @@ use lib.Signed.{mag, ltZ, nonNeg}
 use mir.Syntax.{w32, w64}
 use mir.Val.{Fits, SFits, toZ, ofZ}
 use mir.ValLaws.{toZ-ofZ}
-use borrow.Author.Tests.{ltb-true, lt-ltb, le-ltb}
+use borrow.Author.Tests.{ltb-true, ltb-false, lt-ltb, le-ltb, eq-eqb, eqb-true}
+use Rattle.rules.specs.declared.Ordering.the-variants.{Equal, Greater}
 use Rattle.rules.proofs.Same.{one-test}
 use Rattle.cells.specs.declared.Sign.the-variants.{Natural, Negative}
-use Rattle.cells.specs.View.{code, view, signOf}
+use Rattle.cells.specs.View.{code, view, signOf, cmpNumbers}
 use Rattle.cells.proofs.View.{view-getD, code-one}
 
 -- a local's bits, read back
@@ -137,3 +138,21 @@ module _ (s t : List ℤ) (i j : ℕ) (h : mag (getD s i (pos 0)) < 2 ^ 31) (k :
 
   pub view-equal : eqb (ofZ w32 (getD s i (pos 0))) (ofZ w32 (getD t j (pos 0))) ≡ eqb (getD (view s) i 0) (getD (view t) j 0)
   view-equal = rw (view-getD s i, view-getD t j) (equal (getD s i (pos 0)) (getD t j (pos 0)) h k)
+
+  -- two locals that are the same hold one number of the views
+  pub view-same : ofZ w32 (getD s i (pos 0)) ≡ ofZ w32 (getD t j (pos 0)) → getD (view s) i 0 ≡ getD (view t) j 0
+  view-same e = eqb-true (getD (view s) i 0) (getD (view t) j 0) (sym view-equal ∙ eq-eqb (ofZ w32 (getD s i (pos 0))) (ofZ w32 (getD t j (pos 0))) e)
+
+  -- and two numbers of the views that are the same are so as locals
+  pub same-view : getD (view s) i 0 ≡ getD (view t) j 0 → ofZ w32 (getD s i (pos 0)) ≡ ofZ w32 (getD t j (pos 0))
+  same-view e = eqb-true (ofZ w32 (getD s i (pos 0))) (ofZ w32 (getD t j (pos 0))) (view-equal ∙ eq-eqb (getD (view s) i 0) (getD (view t) j 0) e)
+
+-- ---- how two natural numbers compare
+
+-- a number compares with itself
+pub same-order : (x y : ℕ) → x ≡ y → Equal ≡ cmpNumbers x y
+same-order x y e = rw (e, le-ltb y y (omega arith))
+
+-- a number that is neither the other one nor less is greater
+pub differ-order : (x y : ℕ) → (x ≡ y → ⊥) → ltb x y ≡ false → Greater ≡ cmpNumbers x y
+differ-order x y d e = rw (e, lt-ltb y x (omega (arith, ltb-false x y e)))

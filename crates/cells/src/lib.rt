@@ -98,10 +98,10 @@ pub fn cmp(s: &[i32], i: usize, t: &[i32], j: usize) -> Ordering
 {
     let x = s[i];
     let y = t[j];
-    if x < y {
-        return Ordering::Less;
-    }
-    if y < x {
+    if x != y {
+        if x < y {
+            return Ordering::Less;
+        }
         return Ordering::Greater;
     }
     Ordering::Equal
