@@ -1,24 +1,24 @@
 -- `row_below` and `rows_below`: components against extents, one after the other. Assumes nothing.
 use mathlib.Core.Path.{_≡_, refl, sym, _∙_}
-use mathlib.Core.Bool.{true, false, _&&_}
+use mathlib.Core.Bool.{Bool, true, false, not, _&&_}
 use mathlib.Core.List.{List}
-use Prim.Native.Nat.{ℕ, _+_, _<_, _≤_}
+use Prim.Native.Nat.{ℕ, _+_, _^_, _<_, _≤_}
 use native.Mathlib.Numerals.{add-one}
 use native.Mathlib.Omega.{arith}
-use borrow.Author.Tests.{lt-ltb, le-ltb}
+use borrow.Author.Tests.{not-true, not-false}
 use lib.Dec.{ltb}
 use lib.IntN.{ℤ}
 use lib.ListN.{length, getD, drop, drop-of-length-le}
 use lib.Seq.{drop-cons}
 use Rattle.rules.specs.Lists.{allBelow}
 use Rattle.cells.specs.View.{view}
-use Rattle.tables.specs.Rows.{rowAt}
-use Rattle.tables.proofs.Rows.{row-length, row-number}
+use Rattle.tables.specs.Rows.{rowAt, HasRow}
+use Rattle.tables.proofs.Rows.{row-length, row-number, row-low}
 
 -- the first k of w components at a of s are below their extents at a place of t
 pub record Under (a at w k : ℕ) (s t : List ℤ) : Type 0 where
   pub upto : k ≤ w
-  pub row : a + w ≤ length s
+  pub row : HasRow a w s
   pub extents : at + w ≤ length t
   pub eq : allBelow (rowAt a w s) (rowAt at w t) ≡ allBelow (drop k (rowAt a w s)) (drop k (rowAt at w t))
 
@@ -29,29 +29,33 @@ unfolding allBelow
 next-below p q k h l = rw (add-one, drop-cons p k 0, drop-cons q k 0)
 
 -- none has been read
-pub start : (a at w : ℕ) (s t : List ℤ) → a + w ≤ length s → at + w ≤ length t → Under a at w 0 s t
+pub start : (a at w : ℕ) (s t : List ℤ) → HasRow a w s → at + w ≤ length t → Under a at w 0 s t
 start a at w s t h l = record { upto = omega arith; row = h; extents = l; eq = refl }
 
 module _ {a at w k : ℕ} {s t : List ℤ} (u : Under a at w k s t) where
-  module _ {x y : ℕ} (h : k < w) (e : x ≡ getD (view s) (a + k) 0) (f : y ≡ getD (view t) (at + k) 0) where
-    -- component k decides, and those behind it
-    next : allBelow (rowAt a w s) (rowAt at w t) ≡ ltb x y && allBelow (drop (k + 1) (rowAt a w s)) (drop (k + 1) (rowAt at w t))
+  -- component k is not negative
+  pub low-component : k < w → getD (view s) (a + k) 0 < 2 ^ 31
+  low-component h = row-low a w k s (u .row) h
+
+  module _ {r : Bool} (h : k < w) (e : r ≡ ltb (getD (view s) (a + k) 0) (getD (view t) (at + k) 0)) where
+    -- it decides, and those behind it
+    next : allBelow (rowAt a w s) (rowAt at w t) ≡ r && allBelow (drop (k + 1) (rowAt a w s)) (drop (k + 1) (rowAt at w t))
     next =
-        let p = row-length a w s (u .row) in
+        let p = row-length a w s (u .row .room) in
         let q = row-length at w t (u .extents) in
-        u .eq ∙ next-below (rowAt a w s) (rowAt at w t) k (omega arith) (omega arith) ∙ rw (row-number a w k s h, row-number at w k t h, ← e, ← f)
+        u .eq ∙ next-below (rowAt a w s) (rowAt at w t) k (omega arith) (omega arith) ∙ rw (row-number a w k s h, row-number at w k t h, ← e)
 
     -- it is below its extent
-    pub turn : x < y → Under a at w (k + 1) s t
-    turn l = record { upto = omega arith; row = u .row; extents = u .extents; eq = next ∙ rw (lt-ltb x y l) }
+    pub turn : not r ≡ false → Under a at w (k + 1) s t
+    turn f = record { upto = omega arith; row = u .row; extents = u .extents; eq = rw (not-false r f) at next }
 
     -- it is not
-    pub stop : y ≤ x → false ≡ allBelow (rowAt a w s) (rowAt at w t)
-    stop l = sym (next ∙ rw (le-ltb x y l))
+    pub stop : not r ≡ true → false ≡ allBelow (rowAt a w s) (rowAt at w t)
+    stop f = sym (rw (not-true r f) at next)
 
   -- all are below their extents
   pub done : w ≤ k → true ≡ allBelow (rowAt a w s) (rowAt at w t)
   unfolding allBelow
-  done h = let p = row-length a w s (u .row) in sym (u .eq ∙ rw (drop-of-length-le (rowAt a w s) {i = k} (omega arith)))
+  done h = let p = row-length a w s (u .row .room) in sym (u .eq ∙ rw (drop-of-length-le (rowAt a w s) {i = k} (omega arith)))
 
-pub ruleset laws = (start, turn, stop, done)
+pub ruleset laws = (start, low-component, turn, stop, done)

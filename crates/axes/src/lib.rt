@@ -2,14 +2,14 @@
 // record, in an argument, in a part of the working buffer.
 ghost use mathlib.Core.Path.{_≡_};
 ghost use mathlib.Core.List.{map};
-ghost use Prim.Native.Nat.{_+_, _*_, _≤_};
+ghost use Prim.Native.Nat.{_+_, _≤_};
 ghost use lib.IntN.{pos};
 ghost use lib.ListN.{length};
 ghost use Rattle.rules.specs.Lists.{all, allBelow, product};
 ghost use Rattle.rules.specs.Buffers.{put};
 ghost use Rattle.rules.specs.Layout.{withinProduct};
 ghost use Rattle.rules.specs.Positions.{unravel};
-ghost use Rattle.tables.specs.Rows.{rowAt, rowsAt};
+ghost use Rattle.tables.specs.Rows.{rowAt, rowsAt, HasRow, HasRows};
 ghost use Rattle.axes.specs.Extents.{Extents, IndexAsked};
 
 // Whether the product of those extents that are not zero is at most 65,536.
@@ -45,13 +45,12 @@ pub fn product(s: &[i32], at: usize, rank: usize) -> usize
 
 // Whether each of the w components at a of s is below the extent of its axis; the first extent stands at a place of t.
 pub fn row_below(s: &[i32], a: usize, t: &[i32], at: usize, w: usize) -> bool
-    requires { ⌜ (a + w ≤ length (now s)) × (at + w ≤ length (now t)) ⌝ }
+    requires { ⌜ HasRow a w (now s) ⌝ }
+    requires { ⌜ at + w ≤ length (now t) ⌝ }
     ensures { λ r. ⌜ r ≡ allBelow (rowAt a w (now (s .entry))) (rowAt at w (now (t .entry))) ⌝ }
 {
     for k in 0..w {
-        let component = cells::get(s, a + k);
-        let extent = cells::get(t, at + k);
-        if extent <= component {
+        if !cells::below(s, a + k, t, at + k) {
             return false;
         }
     }
@@ -60,7 +59,8 @@ pub fn row_below(s: &[i32], a: usize, t: &[i32], at: usize, w: usize) -> bool
 
 // The same of n rows from a of s on.
 pub fn rows_below(s: &[i32], a: usize, n: usize, t: &[i32], at: usize, w: usize) -> bool
-    requires { ⌜ (a + n * w ≤ length (now s)) × (at + w ≤ length (now t)) ⌝ }
+    requires { ⌜ HasRows a w n (now s) ⌝ }
+    requires { ⌜ at + w ≤ length (now t) ⌝ }
     ensures { λ r. ⌜ r ≡ all (λ row. allBelow row (rowAt at w (now (t .entry)))) (rowsAt a w n (now (s .entry))) ⌝ }
 {
     for i in 0..n {

@@ -115,12 +115,31 @@ module _ (z : ℤ) (h : mag z < 2 ^ 31) (e : ltZ (held z) (pos 0) ≡ false) whe
 
 pub ruleset signed = (turned-fits, turned-casts, negative-sign, less-negative, natural-casts, natural-sign, less-natural, less-short)
 
+-- a number whose code is low is not negative
+low-natural : (z : ℤ) → code z < 2 ^ 31 → ltZ z (pos 0) ≡ false
+low-natural (pos n) l = le-ltb n 0 (omega arith)
+low-natural (negsuc n) l = absurd (omega arith)
+
+pub low-held : (z : ℤ) → mag z < 2 ^ 31 → code z < 2 ^ 31 → ltZ (held z) (pos 0) ≡ false
+low-held z h l = rw (back z h) (low-natural z l)
+
 -- two natural numbers compare as their codes do
 below : (x y : ℤ) → code x < 2 ^ 31 → code y < 2 ^ 31 → ltZ x y ≡ ltb (code x) (code y)
 below (pos m) (pos n) h k = refl
 below (pos m) (negsuc n) h k = absurd (omega arith)
 below (negsuc m) (pos n) h k = absurd (omega arith)
 below (negsuc m) (negsuc n) h k = absurd (omega arith)
+
+-- a natural number is below another, or below a negative one's code
+less-is : (x y : ℤ) → code x < 2 ^ 31 → ltZ x y ≡ true → true ≡ ltb (code x) (code y)
+less-is (pos m) (pos n) h e = sym e
+less-is (pos m) (negsuc n) h e = cc e
+less-is (negsuc m) y h e = absurd (omega arith)
+
+else-is : (x y : ℤ) → code x < 2 ^ 31 → ltZ x y ≡ false → ltZ y (pos 0) ≡ ltb (code x) (code y)
+else-is (pos m) (pos n) h e = le-ltb n 0 (omega arith) ∙ sym e
+else-is (pos m) (negsuc n) h e = sym (lt-ltb m (2 ^ 31 + n) (omega arith))
+else-is (negsuc m) y h e = absurd (omega arith)
 
 equal : (x y : ℤ) → mag x < 2 ^ 31 → mag y < 2 ^ 31 → eqb (ofZ w32 x) (ofZ w32 y) ≡ eqb (code x) (code y)
 equal x y h k =
@@ -135,6 +154,17 @@ module _ (s t : List ℤ) (i j : ℕ) (h : mag (getD s i (pos 0)) < 2 ^ 31) (k :
   view-below p q =
       rw (view-getD s i, view-getD t j, back (getD s i (pos 0)) h, back (getD t j (pos 0)) k)
       (below (getD s i (pos 0)) (getD t j (pos 0)) (rw view-getD at p) (rw view-getD at q))
+
+  module _ (p : getD (view s) i 0 < 2 ^ 31) where
+    pub view-less : ltZ (held (getD s i (pos 0))) (held (getD t j (pos 0))) ≡ true → true ≡ ltb (getD (view s) i 0) (getD (view t) j 0)
+    view-less e =
+        rw (view-getD s i, view-getD t j)
+        (less-is (getD s i (pos 0)) (getD t j (pos 0)) (rw view-getD at p) (rw (back (getD s i (pos 0)) h, back (getD t j (pos 0)) k) at e))
+
+    pub view-else : ltZ (held (getD s i (pos 0))) (held (getD t j (pos 0))) ≡ false → ltZ (held (getD t j (pos 0))) (pos 0) ≡ ltb (getD (view s) i 0) (getD (view t) j 0)
+    view-else e =
+        rw (view-getD s i, view-getD t j, back (getD t j (pos 0)) k)
+        (else-is (getD s i (pos 0)) (getD t j (pos 0)) (rw view-getD at p) (rw (back (getD s i (pos 0)) h, back (getD t j (pos 0)) k) at e))
 
   pub view-equal : eqb (ofZ w32 (getD s i (pos 0))) (ofZ w32 (getD t j (pos 0))) ≡ eqb (getD (view s) i 0) (getD (view t) j 0)
   view-equal = rw (view-getD s i, view-getD t j) (equal (getD s i (pos 0)) (getD t j (pos 0)) h k)

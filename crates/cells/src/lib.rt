@@ -3,7 +3,7 @@
 ghost use mathlib.Core.Logic.{_⊎_};
 ghost use mathlib.Core.Path.{_≡_};
 ghost use Prim.Native.Nat.{_+_, _-_, _^_, _<_, _≤_};
-ghost use lib.Dec.{eqb};
+ghost use lib.Dec.{eqb, ltb};
 ghost use lib.IntN.{pos, _-ℤ_};
 ghost use lib.ListN.{length, getD, set};
 ghost use Rattle.rules.specs.Buffers.{part, over, put, zeros};
@@ -27,6 +27,15 @@ pub fn get(s: &[i32], at: usize) -> usize
         return below as usize + 2147483648;
     }
     number as usize
+}
+
+// The number at a place that is known to be natural.
+pub fn low(s: &[i32], at: usize) -> usize
+    requires { ⌜ at < length (now s) ⌝ }
+    requires { ⌜ getD (view (now s)) at 0 < 2 ^ 31 ⌝ }
+    ensures { λ r. ⌜ r ≡ getD (view (now (s .entry))) at 0 ⌝ }
+{
+    s[at] as usize
 }
 
 // Whether a number is natural, and then which.
@@ -105,6 +114,20 @@ pub fn cmp(s: &[i32], i: usize, t: &[i32], j: usize) -> Ordering
         return Ordering::Greater;
     }
     Ordering::Equal
+}
+
+// Whether the number at i of s, which is natural, is below what the view of t has at j: every natural number is below a negative one's code.
+pub fn below(s: &[i32], i: usize, t: &[i32], j: usize) -> bool
+    requires { ⌜ (i < length (now s)) × (j < length (now t)) ⌝ }
+    requires { ⌜ getD (view (now s)) i 0 < 2 ^ 31 ⌝ }
+    ensures { λ r. ⌜ r ≡ ltb (getD (view (now (s .entry))) i 0) (getD (view (now (t .entry))) j 0) ⌝ }
+{
+    let x = s[i];
+    let y = t[j];
+    if x < y {
+        return true;
+    }
+    y < 0
 }
 
 // Whether the number at i of s is the one at j of t.

@@ -81,6 +81,10 @@ module _ {at p : ℕ} {s : List ℤ} (a : DiagonalAsked at p s) {r : ℕ} (r-is 
 
 -- ---- by the kind
 
+-- the index and the extents lie in the slice
+pub ask-below : {at p n : ℕ} {s : List ℤ} → HeldAsked at p s → n ≡ rankAt at s → HasRow p n s × (at + 3 + n ≤ length s)
+ask-below a e = (rw e (a .index), omega (arith, a .filters .inside, a .filters .rank-most))
+
 module _ {at p : ℕ} {s : List ℤ} (a : HeldAsked at p s) {k : ℕ} (k-is : k ≡ kindAt at s) where
   pub held-dense : {n : ℕ} {r : Bool} → k ≡ 0 → n ≡ rankAt at s → r ≡ allBelow (rowAt p n s) (rowAt (at + 3) n s) → r ≡ held (filterAt at s) (rowAt p (rankAt at s) s)
   unfolding layoutAt held

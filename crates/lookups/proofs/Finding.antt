@@ -31,7 +31,7 @@ use Rattle.cells.proofs.View.{view-pos}
 use Rattle.tables.specs.Rows.{rowAt, rowsAt, HasRow}
 use Rattle.tables.proofs.Rows.{row-length}
 use Rattle.records.specs.Sound.{SoundRecord}
-use Rattle.records.proofs.Naturals.{low-front}
+use Rattle.records.proofs.Naturals.{low-front, has-front}
 use Rattle.records.proofs.SoundRecords.{lies, layout-shown, sound-rows}
 use Rattle.records.proofs.Shown.{record-shape, rank-shown, width-shown}
 use Rattle.shapes.proofs.Judging.{rank-counted}
@@ -120,9 +120,17 @@ module _ {h : Head} {s index read : List ℤ} (r : SoundRecord h s) (i : IndexRe
   axes-counted : length (layoutIn s .shape) ≡ h .rank
   axes-counted = rw (← record-shape r) (row-length 3 (h .rank) s (record-extents r .room))
 
+  -- it can be compared
+  read-whole : HasRow 0 (h .rank) read
+  unfolding part
+  read-whole = record {
+    room = omega (arith, read-axes, axes-counted);
+    low = rw (i .is, view-pos numbers) (low-front (h .rank) numbers (λ k l. omega (arith, rw (i .is, view-pos) at (components-small read components k))));
+  }
+
   -- it and the extents lie in their slices
-  pub rows-lie : (0 + h .rank ≤ length read) × (3 + h .rank ≤ length s)
-  rows-lie = (omega (arith, read-axes, axes-counted), record-extents r .room)
+  pub rows-lie : HasRow 0 (h .rank) read × (3 + h .rank ≤ length s)
+  rows-lie = (read-whole, record-extents r .room)
 
   pub read-good-index : goodIndex read (length (shapeIn (take (length s - 2) (drop 2 s)))) ≡ true
   read-good-index = rw (lent-shape r) (true-both (eq-eqb (length read) (length (layoutIn s .shape)) read-axes) components)
@@ -172,14 +180,7 @@ module _ {h : Head} {s index read : List ℤ} (r : SoundRecord h s) (i : IndexRe
 
   -- the row that is looked for
   pub read-row : HasRow 0 (h .width) read
-  unfolding part
-  read-row =
-      let b = lies r in
-      let rank = rank-shown r in
-      record {
-        room = omega (arith, read-axes);
-        low = rw (i .is, view-pos numbers) (low-front (h .width) numbers (λ k l. omega (arith, rw (i .is, view-pos) at (components-small read components k))));
-      }
+  read-row = let b = lies r in has-front read-whole (omega arith)
 
 -- the rows that it is looked for among
 module _ {h : Head} {s : List ℤ} (r : SoundRecord h s) where

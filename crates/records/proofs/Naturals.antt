@@ -17,7 +17,8 @@ use Rattle.rules.proofs.RowsRead.{naturals-take, rows-cut}
 use Rattle.rules.proofs.Sets.{each-nil, each-cons}
 use Rattle.cells.specs.View.{code, view, Low}
 use Rattle.cells.proofs.View.{view-part}
-use Rattle.tables.specs.Rows.{rowsAt, HasRows}
+use Rattle.tables.specs.Rows.{rowsAt, HasRow, HasRows}
+use Rattle.tables.proofs.Rows.{row-low}
 
 -- ---- parts
 
@@ -41,6 +42,12 @@ low-part a m n l h f =
     (λ k i. let inside : a + k < n = omega arith in rw (getD-drop a l k 0, ← getD-take n l (a + k) 0 inside) (f (a + k)))
 
 -- ---- rows
+
+-- the front of a row that lies in the slice
+pub has-front : {a w n : ℕ} {s : List ℤ} → HasRow a w s → n ≤ w → HasRow a n s
+unfolding part
+has-front {a} {w} {n} {s} r h =
+    record { room = omega (arith, r .room); low = low-front n (drop a (view s)) (λ k i. rw getD-drop (row-low a w k s r (omega arith))) }
 
 -- rows of low numbers are low
 rows-low : (w n : ℕ) (l : List ℕ) → Low (take (n * w) l) → Each Low (rowsOf w n l)

@@ -4,7 +4,7 @@ mod reader; // reader.rt: a record with a place in it, read section by section
 
 ghost use mathlib.Core.Path.{_≡_};
 ghost use mathlib.Core.Bool.{true};
-ghost use Prim.Native.Nat.{_+_, _*_, _^_, _<_, _≤_};
+ghost use Prim.Native.Nat.{_+_, _^_, _<_, _≤_};
 ghost use lib.ListN.{length, take};
 ghost use lib.Signed.{nonNeg};
 ghost use Rattle.rules.specs.Lists.{all};
@@ -14,7 +14,7 @@ ghost use Rattle.rules.specs.Record.{sectionAt, walk, layoutBy, soundFrom, soun
 ghost use Rattle.rules.specs.declared.Walk.the-variants.{To};
 ghost use Rattle.rules.specs.Arguments.{overRecord};
 ghost use Rattle.cells.specs.View.{view, Low};
-ghost use Rattle.tables.specs.Rows.{HasRows};
+ghost use Rattle.tables.specs.Rows.{HasRow, HasRows};
 ghost use Rattle.records.specs.Slices.{BeginsAt};
 ghost use Rattle.records.specs.Sections.{SectionIn};
 ghost use Rattle.records.specs.Heads.{HeadOf};
@@ -113,18 +113,20 @@ pub fn over_record(s: &[i32]) -> bool
     }
 }
 
-// Whether none of the first n numbers is negative; if so, their views are low.
+// Whether none of the first n numbers is negative, by the least of them and 0; if so, their views are low.
 pub fn all_natural(s: &[i32], n: usize) -> bool
     requires { ⌜ n ≤ length (now s) ⌝ }
     ensures is { λ r. ⌜ r ≡ all nonNeg (take n (now (s .entry))) ⌝ }
     ensures low { λ r. ⌜ (r ≡ true → Low (take n (view (now (s .entry))))) ⌝ }
 {
+    let mut least = 0;
     for k in 0..n {
-        if let Sign::Negative = cells::sign_at(s, k) {
-            return false;
+        let number = s[k];
+        if number < least {
+            least = number;
         }
     }
-    true
+    0 <= least
 }
 
 // Whether the n numbers from a on are all the same.
@@ -142,11 +144,11 @@ pub fn alike(s: &[i32], a: usize, n: usize) -> bool
 
 // Whether each of the n numbers from a on is at most 65,535.
 fn small_numbers(s: &[i32], a: usize, n: usize) -> bool
-    requires { ⌜ a + n ≤ length (now s) ⌝ }
+    requires { ⌜ HasRow a n (now s) ⌝ }
     ensures { λ r. ⌜ r ≡ all small (part a n (view (now (s .entry)))) ⌝ }
 {
     for k in 0..n {
-        if rules::COMPONENT_LIMIT < cells::get(s, a + k) {
+        if rules::COMPONENT_LIMIT < cells::low(s, a + k) {
             return false;
         }
     }
@@ -155,7 +157,7 @@ fn small_numbers(s: &[i32], a: usize, n: usize) -> bool
 
 // Whether the components of the n dependencies from a on are at most 65,535; the number behind them may be any.
 fn small_deps(s: &[i32], a: usize, n: usize, rank: usize) -> bool
-    requires { ⌜ a + n * (rank + 1) ≤ length (now s) ⌝ }
+    requires { ⌜ HasRows a (rank + 1) n (now s) ⌝ }
     ensures { λ r. ⌜ r ≡ smallDeps a rank n (now (s .entry)) ⌝ }
 {
     for i in 0..n {

@@ -14,17 +14,14 @@ abbrev μ-loop : tie.MeasureT-loop
 loop-holds : tie.Need-loop-holds Inv-loop μ-loop
 loop-holds c = search (needs, laws)
 
-add-get : tie.Need-add-get Inv-loop μ-loop
-add-get c = search (needs, laws)
+add-below : tie.Need-add-below Inv-loop μ-loop
+add-below c = search (needs, laws)
 
-get-requires : tie.Need-get-requires Inv-loop μ-loop
-get-requires c κs = search (needs, laws)
+below-requires : tie.Need-below-requires Inv-loop μ-loop
+below-requires c κs = search (needs, laws)
 
-add-get-2 : tie.Need-add-get-2 Inv-loop μ-loop
-add-get-2 c = search (needs, laws)
-
-get-requires-2 : tie.Need-get-requires-2 Inv-loop μ-loop
-get-requires-2 c κs = search (needs, laws)
+add-below-2 : tie.Need-add-below-2 Inv-loop μ-loop
+add-below-2 c = search (needs, laws)
 
 returns : tie.Need-returns Inv-loop μ-loop
 returns c = search (needs, laws)
@@ -48,10 +45,9 @@ row-below-spec =
     Inv-loop
     μ-loop
     loop-holds
-    add-get
-    get-requires
-    add-get-2
-    get-requires-2
+    add-below
+    add-below-2
+    below-requires
     returns
     add-k
     loop-less

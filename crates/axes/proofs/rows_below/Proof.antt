@@ -4,7 +4,7 @@ use native.Mathlib.Omega.{arith}
 use borrow.Author.Needs.{needs}
 use Rattle.rules.specs.Lists.{allBelow}
 use Rattle.tables.specs.Rows.{rowAt, rowsAt}
-use Rattle.tables.proofs.Rows.{row-ends}
+use Rattle.tables.proofs.Rows.{row-ends, has-row}
 use Rattle.tables.proofs.Passing.{Passed}
 use Rattle.tables.proofs.Passing.{rows-passing}
 use Rattle.axes.proofs.rows_below.Statement.{statement}
@@ -26,7 +26,7 @@ add-row-below : tie.Need-add-row-below Inv-loop μ-loop
 add-row-below c = omega (arith, row-ends (c .before .before .args .w) (c .loop-test .taken))
 
 row-below-requires : tie.Need-row-below-requires Inv-loop μ-loop
-row-below-requires c κs = omega (arith, row-ends (c .before .before .args .w) (c .loop-test .taken))
+row-below-requires c κs = search (needs, has-row)
 
 returns : tie.Need-returns Inv-loop μ-loop
 returns c = search (needs, rows-passing)

@@ -1,5 +1,5 @@
 -- `is_held`: by the kind.
-use Rattle.filtering.proofs.Held.{held-dense, ask-diagonal, held-diagonal, held-sparse}
+use Rattle.filtering.proofs.Held.{ask-below, held-dense, ask-diagonal, held-diagonal, held-sparse}
 use borrow.Author.Needs.{needs}
 use Rattle.filtering.proofs.is_held.Statement.{statement}
 use Rattle.filtering.proofs.is_held.Tie as tie
@@ -17,7 +17,7 @@ add-row-below : tie.Need-add-row-below
 add-row-below c = search needs
 
 row-below-requires : tie.Need-row-below-requires
-row-below-requires c κs = search needs
+row-below-requires c κs = ask-below (c .before .before .before .pre) (c .get2 .ensures .0)
 
 returns : tie.Need-returns
 returns c =

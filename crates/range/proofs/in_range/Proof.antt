@@ -1,11 +1,13 @@
 -- `in_range`: the entry is held against the shape, then against the range.
+use native.Mathlib.Omega.{arith}
 use borrow.Author.Needs.{needs}
+use Rattle.records.proofs.Naturals.{has-front}
 use Rattle.range.proofs.Entries.{ranging}
 use Rattle.range.proofs.in_range.Statement.{statement}
 use Rattle.range.proofs.in_range.Tie as tie
 
 row-below-requires : tie.Need-row-below-requires
-row-below-requires c κs = search needs
+row-below-requires c κs = (has-front (c .pre .entry) (omega arith), c .pre .shape-in)
 
 returns : tie.Need-returns
 returns c = search (needs, ranging)

@@ -1,44 +1,42 @@
--- `all_natural`: at each turn the first k numbers are natural and small.
-use mathlib.Core.Path.{refl}
+-- `all_natural`: at each turn the least of the first k numbers and 0 is known.
+use mathlib.Core.Logic.{⊎-elim}
 use Prim.Native.Nat.{_-_}
+use native.Mathlib.Omega.{arith}
 use borrow.Author.Needs.{needs}
-use Rattle.rules.proofs.Same.{true-not-false}
-use Rattle.records.proofs.Numbers.{NaturalUpTo, naturals}
+use Rattle.records.proofs.Numbers.{LeastOf, least-start, least-falls, least-stays, least-tells, all-low}
 use Rattle.records.proofs.all_natural.Statement.{statement}
 use Rattle.records.proofs.all_natural.Tie as tie
 
 abbrev Inv-loop : tie.InvT-loop
-Inv-loop s n k₀ k = NaturalUpTo n k s
+Inv-loop s n least₀ k₀ least k = LeastOf n k s least
 
 abbrev μ-loop : tie.MeasureT-loop
-μ-loop s n k₀ k = n - k
+μ-loop s n least₀ k₀ least k = n - k
 
 loop-holds : tie.Need-loop-holds Inv-loop μ-loop
-loop-holds c = search (needs, naturals)
+loop-holds c = search (needs, least-start)
 
-sign-at-requires : tie.Need-sign-at-requires Inv-loop μ-loop
-sign-at-requires c κs = search (needs, naturals)
+mul-number : tie.Need-mul-number Inv-loop μ-loop
+mul-number c = search needs
 
-enum-told : tie.Need-enum-told Inv-loop μ-loop
-enum-told c = search (needs, naturals)
-
-returns : tie.Need-returns Inv-loop μ-loop
-returns c = (search (needs, naturals), λ e. absurd (true-not-false e refl))
-
-enum-told-2 : tie.Need-enum-told-2 Inv-loop μ-loop
-enum-told-2 c = search (needs, naturals)
+shared-slice-copy-out-number : tie.Need-shared-slice-copy-out-number Inv-loop μ-loop
+shared-slice-copy-out-number c = search needs
 
 add-k : tie.Need-add-k Inv-loop μ-loop
-add-k c = search (needs, naturals)
+add-k c = omega arith
 
 loop-less : tie.Need-loop-less Inv-loop μ-loop
-loop-less c = search (needs, naturals)
+loop-less c = omega arith
 
 loop-again : tie.Need-loop-again Inv-loop μ-loop
-loop-again c = search (needs, naturals)
+loop-again c =
+    let b = c .before in
+    let l = b .before in
+    ⊎-elim (λ e. least-falls (l .before .loop .inv) (l .loop-test .taken) (b .number .given) (e .0 .taken) (e .1))
+    (λ e. least-stays (l .before .loop .inv) (l .loop-test .taken) (b .number .given) (e .0 .left) (e .1)) (c .if1 .came)
 
-returns-2 : tie.Need-returns-2 Inv-loop μ-loop
-returns-2 c = search (needs, naturals)
+returns : tie.Need-returns Inv-loop μ-loop
+returns c = (least-tells (c .before .loop .inv) (c .loop-test .left), all-low (c .before .loop .inv) (c .loop-test .left))
 
 pub all-natural-spec : {M : Type 1} → statement M
 all-natural-spec =
@@ -47,11 +45,9 @@ all-natural-spec =
     Inv-loop
     μ-loop
     loop-holds
-    sign-at-requires
-    enum-told
-    returns
-    enum-told-2
+    mul-number
+    shared-slice-copy-out-number
     add-k
     loop-less
     loop-again
-    returns-2)
+    returns)

@@ -3,9 +3,10 @@ use Prim.Native.Nat.{_-_, _+_}
 use native.Mathlib.Omega.{arith}
 use borrow.Author.Needs.{needs}
 use Rattle.tables.specs.Rows.{rowsAt}
-use Rattle.tables.proofs.Rows.{row-ends}
+use Rattle.tables.proofs.Rows.{row-ends, has-row}
 use Rattle.records.specs.Judging.{smallDep}
 use Rattle.tables.proofs.Passing.{Passed}
+use Rattle.records.proofs.Naturals.{has-front}
 use Rattle.records.proofs.RowTests.{smalls}
 use Rattle.records.proofs.small_deps.Statement.{statement}
 use Rattle.records.proofs.small_deps.Tie as tie
@@ -29,7 +30,7 @@ add-small-numbers-2 : tie.Need-add-small-numbers-2 Inv-loop μ-loop
 add-small-numbers-2 c = omega (arith, row-ends (c .before .before .args .rank + 1) (c .loop-test .taken))
 
 small-numbers-requires : tie.Need-small-numbers-requires Inv-loop μ-loop
-small-numbers-requires c κs = omega (arith, row-ends (c .before .before .args .rank + 1) (c .loop-test .taken))
+small-numbers-requires c κs = has-front (has-row _ _ _ _ (c .before .before .pre) _ (c .loop-test .taken)) (omega arith)
 
 returns : tie.Need-returns Inv-loop μ-loop
 returns c = search (needs, smalls)

@@ -18,11 +18,11 @@ abbrev μ-loop : tie.MeasureT-loop
 loop-holds : tie.Need-loop-holds Inv-loop μ-loop
 loop-holds c = search (needs, smalls)
 
-add-get : tie.Need-add-get Inv-loop μ-loop
-add-get c = search (needs, smalls)
+add-low : tie.Need-add-low Inv-loop μ-loop
+add-low c = search (needs, smalls)
 
-get-requires : tie.Need-get-requires Inv-loop μ-loop
-get-requires c κs = search (needs, smalls)
+low-requires : tie.Need-low-requires Inv-loop μ-loop
+low-requires c κs = search (needs, smalls)
 
 returns : tie.Need-returns Inv-loop μ-loop
 returns c = search (needs, smalls)
@@ -46,8 +46,8 @@ small-numbers-spec =
     Inv-loop
     μ-loop
     loop-holds
-    add-get
-    get-requires
+    add-low
+    low-requires
     returns
     add-k
     loop-less

@@ -1,5 +1,6 @@
 -- `within_sizes`: each test decides where those before it hold.
 use borrow.Author.Needs.{needs}
+use Rattle.records.proofs.Layouts.{rooms}
 use Rattle.records.proofs.Soundness.{sizes}
 use Rattle.records.proofs.within_sizes.Statement.{statement}
 use Rattle.records.proofs.within_sizes.Tie as tie
@@ -11,13 +12,13 @@ returns : tie.Need-returns
 returns c = search (needs, sizes)
 
 small-deps-requires : tie.Need-small-deps-requires
-small-deps-requires c κs = search needs
+small-deps-requires c κs = search (needs, rooms)
 
 returns-2 : tie.Need-returns-2
 returns-2 c = search (needs, sizes)
 
 small-deps-requires-2 : tie.Need-small-deps-requires-2
-small-deps-requires-2 c κs = search needs
+small-deps-requires-2 c κs = search (needs, rooms)
 
 returns-3 : tie.Need-returns-3
 returns-3 c = search (needs, sizes)

@@ -1,4 +1,5 @@
 -- `put_small`: an entry that is small is put.
+use Rattle.records.proofs.Naturals.{has-front}
 use Rattle.entries.proofs.Putting.{too-large, small-put}
 use borrow.Author.Needs.{needs}
 use Rattle.entries.proofs.merging.put_small.Statement.{statement}
@@ -11,7 +12,7 @@ slice-aggregate-row-below-2 : tie.Need-slice-aggregate-row-below-2
 slice-aggregate-row-below-2 c = search needs
 
 row-below-requires : tie.Need-row-below-requires
-row-below-requires c κs = search needs
+row-below-requires c κs = search (needs, has-front)
 
 returns : tie.Need-returns
 returns c =

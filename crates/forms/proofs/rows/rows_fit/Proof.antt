@@ -1,9 +1,7 @@
 -- `rows_fit`: natural, inside the shape and all different, in turn.
-use native.Mathlib.Omega.{arith}
 use borrow.Author.Needs.{needs}
-use denote.Ref.{now}
 use Rattle.shapes.proofs.Judging.{shape-extents}
-use Rattle.forms.proofs.Fitting.{rows-long, rows-there, rows-within, fits}
+use Rattle.forms.proofs.Fitting.{rows-there, rows-within, fits}
 use Rattle.forms.proofs.rows.rows_fit.Statement.{statement}
 use Rattle.forms.proofs.rows.rows_fit.Tie as tie
 
@@ -22,10 +20,9 @@ returns-2 c = search (needs, fits)
 rows-below-requires : tie.Need-rows-below-requires
 rows-below-requires c κs =
     let axes = c .before .before .before in
-    let start = axes .before in
+    let given = axes .before .pre in
     let wide = axes .rank .ensures .0 in
-    let long = rows-long (now (start .args .shape)) (start .args .n) (now (start .args .numbers)) (start .pre .1) wide in
-    (omega arith, shape-extents _ (start .pre .0) wide .room)
+    (rows-there _ _ _ (given .1) wide (c .before .all-natural .ensures .1) (c .if2 .left), shape-extents _ (given .0) wide .room)
 
 returns-3 : tie.Need-returns-3
 returns-3 c = search (needs, fits)
