@@ -3,7 +3,7 @@ use mathlib.Core.Path.{_≡_, refl, sym, ap, _∙_, subst}
 use mathlib.Core.List.{List, [], _∷_, _++_}
 use mathlib.Core.Logic.{_⊎_, inl, inr, ⊎-elim}
 use Prim.Native.Nat.{ℕ, suc, _+_, _-_, _<_, _≤_, _^_}
-use native.Mathlib.Nat.{zero-add, suc-add}
+use native.Mathlib.Nat.{add-zero, zero-add, suc-add}
 use native.Mathlib.Numerals.{add-one}
 use native.Mathlib.Omega.{arith}
 use lib.IntN.{ℤ, pos}
@@ -113,6 +113,10 @@ module _ {from to n : ℕ} {old now : List ℤ} {i : ℕ} (c : Moving from to n 
             rw (back (getD now (from + i) (pos 0)) m, read, ← part-more from i old (pos 0) (omega arith))
             (behind (c .written) i z l (omega arith));
       }
+
+  -- the first number, whose places are written without a sum
+  pub move-first : i ≡ 0 → 0 < n → mag (getD now from (pos 0)) < 2 ^ 31 → Moving from to n old 1 (set now to (held (getD now from (pos 0))))
+  move-first e h m = rw (e, add-zero from, add-zero to) at (move-turn (omega arith) (rw (e, add-zero from) m))
 
   pub move-done : n ≤ i → now ≡ put to (part from n old) old
   move-done h = let e : i ≡ n = omega arith in c .written .is ∙ rw e

@@ -173,6 +173,33 @@ pub fn move_part(s: &mut [i32], from: usize, to: usize, n: usize)
     }
 }
 
+// The same, without a loop where they are at most three.
+pub fn move_row(s: &mut [i32], from: usize, to: usize, n: usize)
+    requires { ⌜ (from + n ≤ length (now s)) × (to + n ≤ length (now s)) ⌝ }
+    requires { ⌜ (from + n ≤ to) ⊎ (to + n ≤ from) ⌝ }
+    ensures { λ _. ⌜ now (s .exit) ≡ put to (part from n (now (s .entry))) (now (s .entry)) ⌝ }
+{
+    if 3 < n {
+        move_part(s, from, to, n);
+        return;
+    }
+    if n == 0 {
+        return;
+    }
+    let first = s[from];
+    s[to] = first;
+    if n == 1 {
+        return;
+    }
+    let second = s[from + 1];
+    s[to + 1] = second;
+    if n == 2 {
+        return;
+    }
+    let third = s[from + 2];
+    s[to + 2] = third;
+}
+
 // The numbers from a up to e move w places up, the last one first.
 pub fn shift_up(s: &mut [i32], a: usize, e: usize, w: usize)
     requires { ⌜ (a ≤ e) × (e + w ≤ length (now s)) ⌝ }

@@ -11,6 +11,7 @@ pub mod Placing
 pub mod Inserting
 pub mod Putting
 pub mod InOrder
+pub mod Appending
 pub mod Walking
 pub mod MergeWalk
 pub mod CommonWalk
