@@ -1,4 +1,4 @@
--- `put_held` and `keep_held`: those of the first i entries that are held are in the table. Assumes nothing.
+-- `put_held` and `keep_each`: those of the first i entries that are held are in the table. Assumes nothing.
 use mathlib.Core.Path.{_≡_, refl, sym, ap, _∙_}
 use mathlib.Core.Bool.{Bool, true, false}
 use mathlib.Core.List.{List, [], _∷_, _++_}
@@ -162,40 +162,42 @@ module _ {at from to w n : ℕ} {s : List ℤ} where
 
 -- ---- from an emptied table on
 
-module _ {at from to w n : ℕ} {s t : List ℤ} (a : KeepAsked at from to s) (w-is : w ≡ rankAt at s + 1) (n-is : n ≡ getD (view s) from 0) (e : t ≡ set s to (pos 0)) where
+-- what is asked, by the width of an entry
+module _ {at from to w : ℕ} {s : List ℤ} (a : KeepAsked at from to s) (w-is : w ≡ rankAt at s + 1) where
   narrow : w ≤ 5
   narrow = omega (arith, a .filters .rank-most)
 
-  room : roomEnd to w ≤ length s
+  pub room : roomEnd to w ≤ length s
   room = let m = narrow in omega (arith, a .room)
 
-  entries : Ready from w s
+  pub entries : Ready from w s
   entries = rw w-is (a .entries)
 
-  apart : (at + statesFrom ≤ to) ⊎ (roomEnd to w ≤ at)
+  pub apart : (at + statesFrom ≤ to) ⊎ (roomEnd to w ≤ at)
   apart = let m = narrow in ⊎-elim (λ x. inl x) (λ x. inr (omega arith)) (a .apart)
 
-  entries-apart : (roomEnd from w ≤ to) ⊎ (roomEnd to w ≤ from)
+  pub entries-apart : (roomEnd from w ≤ to) ⊎ (roomEnd to w ≤ from)
   entries-apart = let m = narrow in ⊎-elim (λ x. inl (omega arith)) (λ x. inr (omega arith)) (a .entries-apart)
 
+module _ {at from to w n : ℕ} {s t : List ℤ} (a : KeepAsked at from to s) (w-is : w ≡ rankAt at s + 1) (n-is : n ≡ getD (view s) from 0) (e : t ≡ set s to (pos 0)) where
   cleared : Only to (roomEnd to w) s t
   cleared = cleared-only s e (roomEnd to w) (omega arith)
 
   pub start : Walk at from to w n 0 t t
   start = begin (record {
-    filters = filters-still cleared apart (a .filters);
-    width = w-is ∙ sym (ap (λ (k : ℕ). k + 1) (rank-same cleared apart (a .filters)));
-    entries = ready-outside cleared entries entries-apart;
-    count-is = n-is ∙ sym (count-outside cleared from w (entries .fits .few) entries-apart);
-    empty = rw e (emptied to w s room);
-    target = cleared-ready s e room;
-    apart = apart;
-    entries-apart = entries-apart;
+    filters = filters-still cleared (apart a w-is) (a .filters);
+    width = w-is ∙ sym (ap (λ (k : ℕ). k + 1) (rank-same cleared (apart a w-is) (a .filters)));
+    entries = ready-outside cleared (entries a w-is) (entries-apart a w-is);
+    count-is = n-is ∙ sym (count-outside cleared from w (entries a w-is .fits .few) (entries-apart a w-is));
+    empty = rw e (emptied to w s (room a w-is));
+    target = cleared-ready s e (room a w-is);
+    apart = apart a w-is;
+    entries-apart = entries-apart a w-is;
   })
 
   pub done : {i : ℕ} {u : List ℤ} → Walk at from to w n i t u → n ≤ i → Kept at from to s u
   done g h = record {
-    table = rw (← w-is, ← filter-same cleared apart (a .filters), ← table-outside cleared from w (entries .fits .few) entries-apart) (all-kept g h);
+    table = rw (← w-is, ← filter-same cleared (apart a w-is) (a .filters), ← table-outside cleared from w (entries a w-is .fits .few) (entries-apart a w-is)) (all-kept g h);
     ready = rw (← w-is) (g .taken .ready refl);
     only = rw (← w-is) (only-then cleared (g .taken .only));
   }

@@ -4,8 +4,9 @@ ghost use Rattle.rules.specs.RowsInOrder.{among};
 ghost use Rattle.rules.specs.Dependencies.{onDiagonal, held, indexOf};
 ghost use Rattle.tables.specs.Rows.{rowAt};
 ghost use Rattle.tables.specs.Tables.{Taken};
-ghost use Rattle.parts.specs.Parts.{rankAt};
+ghost use Rattle.parts.specs.Parts.{kindAt, denseAt, rankAt};
 ghost use Rattle.filtering.specs.Filtering.{filterAt, HeldAsked, DiagonalAsked, takenIf, EntryAsked, KeepAsked, Kept};
+use rules::Ordering;
 use tables::Spot;
 
 // Whether the index at p is a row of the layout at a place: where axes are dense, no row is as long as an index.
@@ -63,8 +64,8 @@ fn put_held(s: &mut [i32], at: usize, p: usize, to: usize, w: usize) -> bool
     true
 }
 
-// The entries of a table whose index the layout at a place holds become another table. They are in order: each costs one comparison.
-pub fn keep_held(s: &mut [i32], at: usize, from: usize, to: usize)
+// The entries of a table whose index the layout at a place holds become another table, one after the other.
+fn keep_each(s: &mut [i32], at: usize, from: usize, to: usize)
     requires { ⌜ KeepAsked at from to (now s) ⌝ }
     ensures { λ _. ⌜ Kept at from to (now (s .entry)) (now (s .exit)) ⌝ }
 {
@@ -76,4 +77,55 @@ pub fn keep_held(s: &mut [i32], at: usize, from: usize, to: usize)
         put_held(s, at, from + 1 + i * w, to, w);
         i += 1;
     }
+}
+
+// The same of a sparse layout without dense axes, in one walk over the entries and its rows, which both increase.
+fn keep_listed(s: &mut [i32], at: usize, from: usize, to: usize)
+    requires { ⌜ KeepAsked at from to (now s) ⌝ }
+    requires { ⌜ (kindAt at (now s) ≡ 2) × (denseAt at (now s) ≡ 0) ⌝ }
+    ensures { λ _. ⌜ Kept at from to (now (s .entry)) (now (s .exit)) ⌝ }
+{
+    let rank = cells::get(s, at + parts::RANK);
+    let w = rank + 1;
+    let mut n = cells::get(s, from);
+    let mut m = cells::get(s, at + parts::ROWS);
+    let mut p = from + 1;
+    let mut q = at + parts::FIRST_ROW;
+    let mut k = 0;
+    while 0 < n {
+        if m == 0 {
+            break;
+        }
+        match tables::cmp_rows(s, p, s, q, rank) {
+            Ordering::Less => {
+                p += w;
+                n -= 1;
+            }
+            Ordering::Equal => {
+                cells::move_row(s, p, to + 1 + k * w, w);
+                p += w;
+                n -= 1;
+                k += 1;
+            }
+            Ordering::Greater => {
+                q += rank;
+                m -= 1;
+            }
+        }
+    }
+    cells::store(s, to, k);
+}
+
+// The entries of a table whose index the layout at a place holds become another table.
+pub fn keep_held(s: &mut [i32], at: usize, from: usize, to: usize)
+    requires { ⌜ KeepAsked at from to (now s) ⌝ }
+    ensures { λ _. ⌜ Kept at from to (now (s .entry)) (now (s .exit)) ⌝ }
+{
+    if cells::get(s, at) == 2 {
+        if cells::get(s, at + parts::DENSE) == 0 {
+            keep_listed(s, at, from, to);
+            return;
+        }
+    }
+    keep_each(s, at, from, to);
 }

@@ -1,11 +1,11 @@
--- `keep_held`: at each turn those of the first i entries that are held are in the table.
+-- `keep_each`: at each turn those of the first i entries that are held are in the table.
 use borrow.Author.Needs.{needs}
 use mathlib.Core.Path.{ap}
 use Prim.Native.Nat.{ℕ, _+_, _-_}
 use native.Mathlib.Omega.{arith}
 use Rattle.filtering.proofs.Keeping.{Walk, start, entry-ended, ask-entry, turn, done}
-use Rattle.filtering.proofs.keep_held.Statement.{statement}
-use Rattle.filtering.proofs.keep_held.Tie as tie
+use Rattle.filtering.proofs.keep_each.Statement.{statement}
+use Rattle.filtering.proofs.keep_each.Tie as tie
 
 abbrev Inv-loop : tie.InvT-loop
 Inv-loop s₀ at from to w n i₀ s i = Walk at from to w n i s₀ s
@@ -91,8 +91,8 @@ returns c =
     let b = g .before .before in
     done (b .pre) (ap (λ (k : ℕ). k + 1) (g .get .ensures .0)) (g2 .get2 .ensures .0) (s .store .ensures) (l .loop .inv) (c .loop-test .left)
 
-pub keep-held-spec : {M : Type 1} → statement M
-keep-held-spec =
+pub keep-each-spec : {M : Type 1} → statement M
+keep-each-spec =
     tie.close
     (tie.spec
     Inv-loop
