@@ -7,7 +7,7 @@ use native.Mathlib.Nat.{add-zero, zero-add, suc-add}
 use native.Mathlib.Numerals.{add-one}
 use native.Mathlib.Omega.{arith}
 use lib.IntN.{ℤ, pos}
-use lib.ListN.{length, getD, set, take, length-append, length-set, length-replicate}
+use lib.ListN.{length, getD, set, take, drop, length-append, length-set, length-replicate}
 use lib.Seq.{take-suc, take-all, length-take-le}
 use lib.Signed.{mag}
 use Rattle.rules.specs.Buffers.{part, over, put, zeros}
@@ -120,6 +120,40 @@ module _ {from to n : ℕ} {old now : List ℤ} {i : ℕ} (c : Moving from to n 
 
   pub move-done : n ≤ i → now ≡ put to (part from n old) old
   move-done h = let e : i ≡ n = omega arith in c .written .is ∙ rw e
+
+-- `copy_row`: the first i numbers of a part of another slice are written
+pub record Bringing (from to n : ℕ) (src old : List ℤ) (i : ℕ) (now : List ℤ) : Type 0 where
+  pub upto : i ≤ n
+  pub source : from + n ≤ length src
+  pub room : to + n ≤ length old
+  pub written : Written to (part from i src) old now
+
+pub bring-start : {from to n : ℕ} {src old : List ℤ} → from + n ≤ length src → to + n ≤ length old → Bringing from to n src old 0 old
+unfolding part
+bring-start {to} {old} p q = record { upto = omega arith; source = p; room = q; written = nothing to old (omega arith) }
+
+module _ {from to n : ℕ} {src old now : List ℤ} {i : ℕ} (c : Bringing from to n src old i now) where
+  pub bring-turn : i < n → mag (getD src (from + i) (pos 0)) < 2 ^ 31 → Bringing from to n src old (i + 1) (set now (to + i) (held (getD src (from + i) (pos 0))))
+  bring-turn h m = record {
+    upto = omega arith;
+    source = c .source;
+    room = c .room;
+    written =
+        rw (back (getD src (from + i) (pos 0)) m, ← part-more from i src (pos 0) (omega (arith, c .source)))
+        (behind (c .written) i (getD src (from + i) (pos 0)) (length-part from i src (omega (arith, c .source))) (omega (arith, c .room)));
+  }
+
+  -- the first number, whose places are written without a sum
+  pub bring-first : i ≡ 0 → 0 < n → mag (getD src from (pos 0)) < 2 ^ 31 → Bringing from to n src old 1 (set now to (held (getD src from (pos 0))))
+  bring-first e h m = rw (e, add-zero from, add-zero to) at (bring-turn (omega arith) (rw (e, add-zero from) m))
+
+  pub bring-done : n ≤ i → now ≡ put to (part from n src) old
+  bring-done h = let e : i ≡ n = omega arith in c .written .is ∙ rw e
+
+-- a part that is lent was written
+pub bring-lent : (from to n : ℕ) (src old : List ℤ) {now : List ℤ} → now ≡ put to (take (from + n - from) (drop from src)) old → now ≡ put to (part from n src) old
+unfolding part
+bring-lent from to n src old e = let size : from + n - from ≡ n = omega arith in rw size at e
 
 -- `shift_up`: the numbers from k up to e are written
 pub record Shifting (a e w : ℕ) (old : List ℤ) (k : ℕ) (now : List ℤ) : Type 0 where

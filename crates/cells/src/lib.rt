@@ -159,6 +159,30 @@ pub fn copy_into(src: &[i32], dst: &mut [i32], at: usize)
     copy(src, &mut dst[at..end]);
 }
 
+// The n numbers at a place of src go into dst from a place on, without a loop where they are at most three.
+pub fn copy_row(src: &[i32], from: usize, dst: &mut [i32], to: usize, n: usize)
+    requires { ⌜ (from + n ≤ length (now src)) × (to + n ≤ length (now dst)) ⌝ }
+    ensures { λ _. ⌜ now (dst .exit) ≡ put to (part from n (now (src .entry))) (now (dst .entry)) ⌝ }
+{
+    if 3 < n {
+        let end = from + n;
+        copy_into(&src[from..end], dst, to);
+        return;
+    }
+    if n == 0 {
+        return;
+    }
+    dst[to] = src[from];
+    if n == 1 {
+        return;
+    }
+    dst[to + 1] = src[from + 1];
+    if n == 2 {
+        return;
+    }
+    dst[to + 2] = src[from + 2];
+}
+
 // n numbers go from one place of a slice to another, where the two parts have nothing in common.
 pub fn move_part(s: &mut [i32], from: usize, to: usize, n: usize)
     requires { ⌜ (from + n ≤ length (now s)) × (to + n ≤ length (now s)) ⌝ }
