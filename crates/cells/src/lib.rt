@@ -197,16 +197,13 @@ pub fn move_part(s: &mut [i32], from: usize, to: usize, n: usize)
     }
 }
 
-// The same, without a loop where they are at most three.
+// The same of at most five numbers, without a loop.
 pub fn move_row(s: &mut [i32], from: usize, to: usize, n: usize)
     requires { ⌜ (from + n ≤ length (now s)) × (to + n ≤ length (now s)) ⌝ }
     requires { ⌜ (from + n ≤ to) ⊎ (to + n ≤ from) ⌝ }
+    requires { ⌜ n ≤ 5 ⌝ }
     ensures { λ _. ⌜ now (s .exit) ≡ put to (part from n (now (s .entry))) (now (s .entry)) ⌝ }
 {
-    if 3 < n {
-        move_part(s, from, to, n);
-        return;
-    }
     if n == 0 {
         return;
     }
@@ -222,6 +219,16 @@ pub fn move_row(s: &mut [i32], from: usize, to: usize, n: usize)
     }
     let third = s[from + 2];
     s[to + 2] = third;
+    if n == 3 {
+        return;
+    }
+    let fourth = s[from + 3];
+    s[to + 3] = fourth;
+    if n == 4 {
+        return;
+    }
+    let fifth = s[from + 4];
+    s[to + 4] = fifth;
 }
 
 // The numbers from a up to e move w places up, the last one first.

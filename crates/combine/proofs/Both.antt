@@ -126,6 +126,7 @@ module _ {d : ℕ} {s : List ℤ} (q : BothAsked d s) where
             first = λ _. table-outside (other .only) (spare + rowsFrom) (rankAt left s - d) (p .ready f .fits .few) (inl (omega arith)) ∙ p .table f;
             second = other .table;
             pair = λ g. record {
+              narrow = omega arith;
               first = first-ready;
               second = other .ready g;
               target = omega (arith, window q .room, both-only .size);

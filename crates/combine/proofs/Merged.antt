@@ -27,6 +27,7 @@ module _ {w : ℕ} {s : List ℤ} (q : DepsAsked s) (e : w ≡ rankAt left s + 1
   -- a table of both, at a place of their parts
   pair : (k : ℕ) → k + 1 + 128 * w ≤ partSize → Ready (left + k) w s → Ready (right + k) w s → PairAsked (left + k) (right + k) (target + k) w s
   pair k h x y = record {
+    narrow = narrow;
     first = x;
     second = y;
     target = omega (arith, q .window .room);

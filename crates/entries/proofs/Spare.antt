@@ -34,6 +34,7 @@ none-made z = absurd (true-not-false z refl)
 module _ {at w : ℕ} {s : List ℤ} (a : TargetReady at w s) (b : Ready spare w s) where
   pub ask-merge : PairAsked at spare otherSpare w s
   ask-merge = record {
+    narrow = omega (arith, a .narrow);
     first = a .ready;
     second = b;
     target = omega (arith, a .room, a .narrow);

@@ -164,7 +164,7 @@ module _ {at from to w n : ℕ} {s : List ℤ} where
 
 -- what is asked, by the width of an entry
 module _ {at from to w : ℕ} {s : List ℤ} (a : KeepAsked at from to s) (w-is : w ≡ rankAt at s + 1) where
-  narrow : w ≤ 5
+  pub narrow : w ≤ 5
   narrow = omega (arith, a .filters .rank-most)
 
   pub room : roomEnd to w ≤ length s

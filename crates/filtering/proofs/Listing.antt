@@ -29,7 +29,7 @@ use Rattle.tables.proofs.Walking.{left-rest, Movable, Pair, Walk, begin, first-
 use Rattle.records.proofs.Naturals.{has-front}
 use Rattle.parts.specs.Parts.{rowsFrom, kindAt, denseAt, rankAt, widthAt, layoutAt}
 use Rattle.filtering.specs.Filtering.{filterAt, KeepAsked, Kept}
-use Rattle.filtering.proofs.Keeping.{room, entries, apart, entries-apart}
+use Rattle.filtering.proofs.Keeping.{narrow, room, entries, apart, entries-apart}
 
 -- ---- lists
 
@@ -176,6 +176,7 @@ module _ {at from to r w : ℕ} {s : List ℤ} (a : KeepAsked at from to s) (pla
       record {
         upto = omega arith;
         walk = rw first at (begin (fronts r) (record {
+          narrow = narrow a wide;
           first = entries a wide;
           second = rw whole at (a .filters .rows);
           target = room a wide;

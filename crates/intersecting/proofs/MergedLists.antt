@@ -265,6 +265,7 @@ module _ (d : ℕ) {list : ℕ} {s : List ℤ} (q : ListAsked list s) where
             let n = few-wide in
             let k = place-in (q .place) in
             record {
+              narrow = few-wide;
               first = first-ready;
               second = rw right-width at (p′ .ready g);
               target = omega (arith, window .room, both-wide .size);

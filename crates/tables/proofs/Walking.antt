@@ -69,16 +69,18 @@ module _ {x a e w p n : ℕ} {t u : List ℤ} (l : Left x w p n t) (o : Only a e
 
 -- the row at p can be moved behind the k rows of the table that is made
 pub record Movable (to w p k : ℕ) (t : List ℤ) : Type 0 where
+  pub narrow : w ≤ 5
   pub ends : p + w ≤ length t
   pub room : to + 1 + k * w + w ≤ length t
   pub apart : (p + w ≤ to + 1 + k * w) ⊎ (to + 1 + k * w + w ≤ p)
 
 -- a row that is left can be moved while there is room
-movable : {x to w p n k : ℕ} {t : List ℤ} → Left x w p n t → 0 < n → k < 128 → roomEnd to w ≤ length t → Disjoint x to w → Movable to w p k t
-movable {x} {to} {w} {p} {n} {k} {t} l h few room d =
+movable : {x to w p n k : ℕ} {t : List ℤ} → Left x w p n t → 0 < n → k < 128 → w ≤ 5 → roomEnd to w ≤ length t → Disjoint x to w → Movable to w p k t
+movable {x} {to} {w} {p} {n} {k} {t} l h few narrow room d =
     let first : w ≤ n * w = omega (arith, rows-size w n h) in
     let last : k * w + w ≤ 128 * w = row-ends w few in
     record {
+      narrow = narrow;
       ends = omega (arith, l .rows .room);
       room = omega arith;
       apart = ⊎-elim (λ e. inl (omega (arith, l .within))) (λ e. inr (omega (arith, l .after))) d;
@@ -88,6 +90,7 @@ movable {x} {to} {w} {p} {n} {k} {t} l h few room d =
 
 -- two tables that increase, of widths w and v, and room for a third one of width w
 pub record Pair (x y to w v : ℕ) (s : List ℤ) : Type 0 where
+  pub narrow : w ≤ 5
   pub first : Ready x w s
   pub second : Ready y v s
   pub target : roomEnd to w ≤ length s
@@ -119,7 +122,7 @@ begin f {x} {y} {to} {w} {v} {n} {m} {s} a e d = record {
 pub start : (f : List (List ℕ) → List (List ℕ) → List (List ℕ)) {x y to w n m : ℕ} {s : List ℤ} → PairAsked x y to w s →
     n ≡ getD (view s) x 0 → m ≡ getD (view s) y 0 → Walk f x y to w w (x + 1) n (y + 1) m 0 s s
 start f a e d =
-    begin f (record { first = a .first; second = a .second; target = a .target; apart-first = a .apart-first; apart-second = a .apart-second }) e d
+    begin f (record { narrow = a .narrow; first = a .first; second = a .second; target = a .target; apart-first = a .apart-first; apart-second = a .apart-second }) e d
 
 module _ {f : List (List ℕ) → List (List ℕ) → List (List ℕ)} {x y to w v p n q m k : ℕ} {s t : List ℤ} (g : Walk f x y to w v p n q m k s t) where
   -- the table to be made has its room
@@ -132,7 +135,7 @@ module _ {f : List (List ℕ) → List (List ℕ) → List (List ℕ)} {x y to w
     first-row = has-first (g .first .rows) some
 
     pub first-moves : k < 128 → Movable to w p k t
-    first-moves few = movable (g .first) some few fits (g .asked .apart-first)
+    first-moves few = movable (g .first) some few (g .asked .narrow) fits (g .asked .apart-first)
 
   module _ (some : m ≡ 0 → ⊥) where
     more : 0 < m
@@ -191,7 +194,7 @@ module _ {f : List (List ℕ) → List (List ℕ) → List (List ℕ)} {x y to w
 -- of one width, the next row of the second can be moved, and what is left of it can follow
 module _ {f : List (List ℕ) → List (List ℕ) → List (List ℕ)} {x y to w p n q m k : ℕ} {s t : List ℤ} (g : Walk f x y to w w p n q m k s t) where
   pub second-moves : (m ≡ 0 → ⊥) → k < 128 → Movable to w q k t
-  second-moves some few = movable (g .second) (omega arith) few (fits g) (g .asked .apart-second)
+  second-moves some few = movable (g .second) (omega arith) few (g .asked .narrow) (fits g) (g .asked .apart-second)
 
   pub second-follows : AppendAsked to k q m w t
   second-follows = record { made = g .few; left = g .second .few; source = g .second .rows .room; target = fits g; apart = outside (g .second) (g .asked .apart-second) }
