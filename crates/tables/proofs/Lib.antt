@@ -10,11 +10,12 @@ pub mod Tables
 pub mod Placing
 pub mod Inserting
 pub mod Putting
-pub mod InOrder
 pub mod Appending
 pub mod Walking
 pub mod MergeWalk
 pub mod CommonWalk
 pub mod Made
 pub mod Taking
+pub mod InOrder
+pub mod SortedFrom
 pub mod Passing
