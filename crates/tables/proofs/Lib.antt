@@ -7,7 +7,7 @@ pub mod Rising
 pub mod Different
 pub mod Only
 pub mod Tables
-pub mod Placing
+pub mod LastRow
 pub mod Inserting
 pub mod Putting
 pub mod Appending
