@@ -20,8 +20,8 @@ use Rattle.rules.proofs.Changed.{take-low}
 use Rattle.rules.proofs.Keeping.{keep-increasing, keep-length}
 use Rattle.rules.proofs.Sorting.{sorted-id, sorted-length}
 use Rattle.cells.specs.View.{view}
-use Rattle.tables.specs.Rows.{rowAt, HasRow}
-use Rattle.tables.specs.Tables.{tableAt, roomEnd, Only, Ready, Put, Taken}
+use Rattle.tables.specs.Rows.{rowAt}
+use Rattle.tables.specs.Tables.{tableAt, roomEnd, Only, Ready, RowApart, Put, Taken}
 use Rattle.tables.proofs.Rows.{row-ends, row-of, row-length, has-row}
 use Rattle.tables.proofs.Only.{only-then, row-outside, has-row-outside, table-outside, ready-outside, count-outside}
 use Rattle.tables.proofs.Tables.{table-rows, table-length, fits-rows}
@@ -50,8 +50,8 @@ module _ {at p to w : ℕ} {s : List ℤ} (a : EntryAsked at p to w s) where
     index = record { room = omega (arith, a .entry .room, a .width); low = rw (← front) (take-low (rankAt at s) (rowAt p w s) (a .entry .low)) };
   }
 
-  pub ask-put : Ready to w s × (HasRow p w s × (w ≤ 5))
-  ask-put = (a .target, (a .entry, omega (arith, a .width, a .filters .rank-most)))
+  pub ask-put : Ready to w s × RowApart to w p s
+  ask-put = (a .target, record { row = a .entry; narrow = omega (arith, a .width, a .filters .rank-most); apart = a .apart })
 
   module _ {b : Bool} (b-is : b ≡ held (filterAt at s) (rowAt p (rankAt at s) s)) where
     test : held (filterAt at s) (indexOf (rowAt p w s)) ≡ b
@@ -128,6 +128,7 @@ module _ {at from to w n : ℕ} {s : List ℤ} where
         width = g .asked .width ∙ sym (ap (λ (k : ℕ). k + 1) (rank-same (g .taken .only) (g .asked .apart) (g .asked .filters)));
         entry = has-row-outside (g .taken .only) (has-row (from + 1) w n s (fits-rows (g .asked .entries .fits) (g .asked .count-is)) i h) entry-apart;
         target = g .taken .ready refl;
+        apart = entry-apart;
       }
 
       entry-is : rowAt (from + 1 + i * w) w t ≡ getD rows i []

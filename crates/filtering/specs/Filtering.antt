@@ -39,12 +39,13 @@ pub record DiagonalAsked (at p : ℕ) (s : List ℤ) : Type 0 where
 abbrev pub takenIf : Bool → List ℕ → List (List ℕ)
 takenIf b row = if b (row ∷ []) []
 
--- an entry, and a table that can take entries
+-- a table that can take entries, and an entry apart from it
 pub record EntryAsked (at p to w : ℕ) (s : List ℤ) : Type 0 where
   pub filters : Filters at s
   pub width : w ≡ rankAt at s + 1
   pub entry : HasRow p w s
   pub target : Ready to w s
+  pub apart : (p + w ≤ to) ⊎ (roomEnd to w ≤ p)
 
 -- a table of entries, and room for another one apart from it and from the head and the rows
 pub record KeepAsked (at from to : ℕ) (s : List ℤ) : Type 0 where
