@@ -20,7 +20,7 @@ use Rattle.rules.specs.Concatenate.{Block, blockOf, movedBy}
 use Rattle.rules.proofs.Same.{true-not-false}
 use Rattle.rules.proofs.Replaced.{fit-length}
 use Rattle.tables.specs.Tables.{tableAt, roomEnd, Ready}
-use Rattle.parts.specs.Parts.{spare}
+use Rattle.parts.specs.Parts.{windowSize, spare}
 use Rattle.records.specs.Sound.{SoundRecord}
 use Rattle.records.proofs.EndToEnd.{to-end}
 use Rattle.records.proofs.SoundRecords.{broken-unsound}
@@ -141,7 +141,7 @@ module _ {x : Listed} {r w : ℕ} {start : List ℕ} {block : List ℤ} (a : Blo
     pub block-left : z ≡ true → MergedMore at w (all (smallTo (axesIn x r w)) (entriesOf x r theBlock)) (entriesOf x r theBlock) s s true
     block-left e = none-merged b (axesIn x r w) (entries-none x r theBlock (sym told ∙ e))
 
-    module _ (e : z ≡ false) {u : List ℤ} {v : Bool} (p : Tabled spare w (axesIn x r w) (roomEnd spare w) (movedList x r (take r start) (layoutIn lent)) s u v) where
+    module _ (e : z ≡ false) {u : List ℤ} {v : Bool} (p : Tabled spare w (axesIn x r w) windowSize (movedList x r (take r start) (layoutIn lent)) s u v) where
       is : entriesOf x r theBlock ≡ movedList x r (take r start) (layoutIn lent)
       is = entries-are (sym told ∙ e)
 

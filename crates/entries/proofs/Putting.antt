@@ -6,7 +6,8 @@ use Prim.Native.Nat.{ℕ, zero, suc, _+_, _<_, _≤_}
 use native.Mathlib.Omega.{arith}
 use borrow.Author.Tests.{not-true, not-false}
 use lib.IntN.{ℤ, pos}
-use lib.ListN.{length, getD, set, take, replicate, length-map}
+use lib.ListN.{length, getD, set, take, replicate, length-map, length-take, length-replicate, getD-replicate}
+use lib.Seq.{getD-take}
 use Rattle.rules.specs.declared.Head.{Head}
 use Rattle.rules.specs.Limits.{productLimit}
 use Rattle.rules.specs.Lists.{all, allBelow}
@@ -15,6 +16,7 @@ use Rattle.rules.specs.Buffers.{part}
 use Rattle.rules.specs.Layout.{few}
 use Rattle.rules.specs.Record.{layoutIn}
 use Rattle.rules.proofs.Same.{true-not-false}
+use Rattle.rules.proofs.Low.{below-at, at-below}
 use Rattle.cells.specs.View.{view}
 use Rattle.tables.specs.Rows.{rowAt}
 use Rattle.tables.specs.Tables.{tableAt, roomEnd, Put, Taken}
@@ -49,6 +51,18 @@ cut-below zero v [] = refl
 cut-below zero v (c ∷ l) = refl
 cut-below (suc n) v [] = refl
 cut-below (suc n) v (c ∷ l) = rw (cut-below n v l)
+
+-- a row is small if its first n numbers are, and then each of them is
+pub small-is : (n : ℕ) (row : List ℕ) → ((k : ℕ) → k < n → getD row k 0 < productLimit) → smallTo n row ≡ true
+small-is n row f =
+    rw (← cut-below n productLimit row)
+    (at-below (take n row) (replicate n productLimit)
+    (λ k h.
+    let i : k < n = omega (arith, simp length-take at h) in
+    rw (getD-take n row k 0 i, getD-replicate n k productLimit 0 i) (f k i)))
+
+pub small-at : (n : ℕ) (row : List ℕ) → smallTo n row ≡ true → (k : ℕ) → k < n → k < length row → getD row k 0 < productLimit
+small-at n row e k h i = rw (getD-replicate n k productLimit 0 h) at (below-at row (replicate n productLimit) e k i (rw length-replicate h))
 
 module _ {entry : List ℤ} {n to w : ℕ} {s : List ℤ} (a : SmallAsked entry n to w s) where
   module _ {b : Bool} (told : b ≡ allBelow (rowAt 0 n entry) (rowAt 0 n limits)) where

@@ -143,72 +143,80 @@ axes-few Rows {r} {w} l f h = let n : w ≤ r = by (isSparse l) refl in record {
 axes-few States l f h = record { upto = omega (arith, f .1); within = omega arith; all = inr refl; narrow = omega (arith, f .1) }
 axes-few Inputs l f h = record { upto = omega (arith, f .1); within = omega arith; all = inr refl; narrow = omega (arith, f .1) }
 
--- ---- an entry of a record that is moved: `moved_entry`
+-- ---- an entry that is moved
+
+-- the first numbers of a start move those of axes
+abbrev pub movedOn : Listed → ℕ → ℕ → List ℕ → List ℕ → List ℕ
+movedOn x r w start d = movedBy (take (axesIn x r w) start) d
+
+module _ (x : Listed) {r w : ℕ} (l : Layout) (f : OfWidth x r w l) (few : r ≤ rankLimit) (start : List ℕ) (q : StartLow start) {d : List ℕ} (fits : EntryFits x r w d) where
+  axes : AxesFew (axesIn x r w) r w
+  axes = axes-few x l f few
+
+  -- a number of a start that is behind the axes does not count
+  pub axes-only : movedOn x r w start d ≡ movedBy (take r start) d
+  axes-only =
+      moved-by-same (take (axesIn x r w) start) (take r start) d
+      (λ k o.
+      ⊎-elim
+      (λ e.
+      let j : k < axesIn x r w = omega (arith, fits .size) in
+      getD-take (axesIn x r w) start k 0 j ∙ sym (getD-take r start k 0 (omega (arith, axes .within))))
+      (λ e. rw e)
+      (axes .all))
+
+  -- no number becomes negative
+  pub moved-low : Low (movedOn x r w start d)
+  moved-low k = by (compareNumbers k (length d)) (compareNumbers k (axesIn x r w))
+    where
+      past : length d ≤ k → getD (movedOn x r w start d) k 0 < 2 ^ 31
+      past o = omega (arith, List·getD-eq-default (movedOn x r w start d) 0 {n = k} (rw moved-by-length o))
+
+      behind : k < length d → axesIn x r w ≤ k → getD (movedOn x r w start d) k 0 < 2 ^ 31
+      behind o j =
+          let z = List·getD-eq-default (take (axesIn x r w) start) 0 {n = k} (simp length-take (omega arith)) in
+          rw (moved-by-at (take (axesIn x r w) start) d k o) (omega (arith, fits .low k))
+
+      by : ComparedNumbers k (length d) → ComparedNumbers k (axesIn x r w) → getD (movedOn x r w start d) k 0 < 2 ^ 31
+      by (under o) (under j) =
+          let s : getD (take (axesIn x r w) start) k 0 ≤ productLimit = rw (getD-take (axesIn x r w) start k 0 j) (q k) in
+          rw (moved-by-at (take (axesIn x r w) start) d k o) (omega (arith, fits .small k j))
+      by (under o) (even j) = behind o (omega arith)
+      by (under o) (above j) = behind o (omega arith)
+      by (even o) j = past (omega arith)
+      by (above o) j = past (omega arith)
+
+-- ---- an entry of a record: `moved_entry`
 
 -- entry i of a list
 abbrev rowOf : Listed → ℕ → ℕ → List ℤ → List ℕ
 rowOf x r i s = getD (listed x r (layoutIn s)) i []
 
-module _ {x : Listed} {h : Head} {s : List ℤ} {r w : ℕ} (a : ListAsked x h s r w) (start : List ℕ) {i : ℕ} (q : StartLow start × (i < length (listed x r (layoutIn s))))
-    (entry : List ℤ) (long : length entry ≡ 5) (is : rowAt 0 w entry ≡ getD (listed x r (layoutIn s)) i []) {n : ℕ} (n-is : n ≡ axesIn x r w) where
-  fits : EntryFits x r w (rowOf x r i s)
-  fits = list-fits x (layout-sound (a .source)) (deps-low (a .source)) (a .fits) (rowOf x r i s) (in-at (listed x r (layoutIn s)) i (q .1))
+module _ {x : Listed} {h : Head} {s : List ℤ} {r w : ℕ} (a : ListAsked x h s r w) where
+  pub record-fits : Each (EntryFits x r w) (listed x r (layoutIn s))
+  record-fits = list-fits x (layout-sound (a .source)) (deps-low (a .source)) (a .fits)
 
-  few : AxesFew n r w
-  few = rw n-is (axes-few x (layoutIn s) (a .fits) (a .few))
+  module _ (start : List ℕ) {i : ℕ} (q : StartLow start × (i < length (listed x r (layoutIn s))))
+      (entry : List ℤ) (long : length entry ≡ 5) (is : rowAt 0 w entry ≡ getD (listed x r (layoutIn s)) i []) {n : ℕ} (n-is : n ≡ axesIn x r w) where
+    fits : EntryFits x r w (rowOf x r i s)
+    fits = record-fits (rowOf x r i s) (in-at (listed x r (layoutIn s)) i (q .1))
 
-  pub ask-move : MoveAsked entry start n
-  ask-move = record {
-    narrow = omega (arith, few .within, a .few);
-    start-low = q .0;
-    row-low = λ k o.
-        let j : k < w = omega (arith, few .upto) in
-        let seen : getD (view entry) k 0 ≡ getD (rowOf x r i s) k 0 = sym (row-number 0 w k entry j ∙ ap (λ (o′ : ℕ). getD (view entry) o′ 0) (zero-add k)) ∙ ap (λ (t : List ℕ). getD t k 0) is in
-        rw seen (fits .small k (rw (← n-is) o));
-  }
+    few : AxesFew n r w
+    few = rw n-is (axes-few x (layoutIn s) (a .fits) (a .few))
 
-  module _ {sum : List ℤ} (m : Moved n start entry sum) (long′ : length sum ≡ 5) where
-    made : rowAt 0 w sum ≡ movedBy (take n start) (rowOf x r i s)
-    made = rw is at (row-moved m long long′ (few .narrow))
+    pub ask-move : MoveAsked entry start n
+    ask-move = record {
+      narrow = omega (arith, few .within, a .few);
+      start-low = q .0;
+      row-low = λ k o.
+          let j : k < w = omega (arith, few .upto) in
+          let seen : getD (view entry) k 0 ≡ getD (rowOf x r i s) k 0 = sym (row-number 0 w k entry j ∙ ap (λ (o′ : ℕ). getD (view entry) o′ 0) (zero-add k)) ∙ ap (λ (t : List ℕ). getD t k 0) is in
+          rw seen (fits .small k (rw (← n-is) o));
+    }
 
-    -- a number of a start that is behind the axes does not count
-    cut : (k : ℕ) → k < length (rowOf x r i s) → getD (take n start) k 0 ≡ getD (take r start) k 0
-    cut k o =
-        ⊎-elim
-        (λ e.
-        let j : k < n = omega (arith, fits .size) in
-        getD-take n start k 0 j ∙ sym (getD-take r start k 0 (omega (arith, few .within))))
-        (λ e. rw e)
-        (few .all)
-
-    low : Low (movedBy (take n start) (rowOf x r i s))
-    low k = by (compareNumbers k (length (rowOf x r i s))) (compareNumbers k n)
-      where
-        start-most : getD (take n start) k 0 ≤ productLimit
-        start-most = at-most (compareNumbers k n)
-          where
-            at-most : ComparedNumbers k n → getD (take n start) k 0 ≤ productLimit
-            at-most (under o) = rw (getD-take n start k 0 o) (q .0 k)
-            at-most (even o) = let z = List·getD-eq-default (take n start) 0 {n = k} (simp length-take (omega arith)) in omega arith
-            at-most (above o) = let z = List·getD-eq-default (take n start) 0 {n = k} (simp length-take (omega arith)) in omega arith
-
-        past : length (rowOf x r i s) ≤ k → getD (movedBy (take n start) (rowOf x r i s)) k 0 < 2 ^ 31
-        past o = omega (arith, List·getD-eq-default (movedBy (take n start) (rowOf x r i s)) 0 {n = k} (rw moved-by-length o))
-
-        behind : k < length (rowOf x r i s) → n ≤ k → getD (movedBy (take n start) (rowOf x r i s)) k 0 < 2 ^ 31
-        behind o j =
-            let z = List·getD-eq-default (take n start) 0 {n = k} (simp length-take (omega arith)) in
-            rw (moved-by-at (take n start) (rowOf x r i s) k o) (omega (arith, fits .low k))
-
-        by : ComparedNumbers k (length (rowOf x r i s)) → ComparedNumbers k n → getD (movedBy (take n start) (rowOf x r i s)) k 0 < 2 ^ 31
-        by (under o) (under j) = rw (moved-by-at (take n start) (rowOf x r i s) k o) (omega (arith, start-most, fits .small k (rw (← n-is) j)))
-        by (under o) (even j) = behind o (omega arith)
-        by (under o) (above j) = behind o (omega arith)
-        by (even o) j = past (omega arith)
-        by (above o) j = past (omega arith)
-
-    pub entry-moved : EntryIs w (getD (movedList x r (take r start) (layoutIn s)) i []) sum
-    entry-moved =
-        let e : movedBy (take n start) (rowOf x r i s) ≡ getD (movedList x r (take r start) (layoutIn s)) i [] =
-        moved-by-same (take n start) (take r start) (rowOf x r i s) cut ∙ sym (map-at (movedBy (take r start)) (listed x r (layoutIn s)) i [] [] (q .1)) in
-        record { is = made ∙ e; low = rw e at low }
+    pub entry-moved : {sum : List ℤ} → Moved n start entry sum → length sum ≡ 5 → EntryIs w (getD (movedList x r (take r start) (layoutIn s)) i []) sum
+    entry-moved {sum} m long′ =
+        let made : rowAt 0 w sum ≡ movedBy (take (axesIn x r w) start) (rowOf x r i s) = rw (n-is, is) at (row-moved m (long′ ∙ sym long) w) in
+        let e : movedBy (take (axesIn x r w) start) (rowOf x r i s) ≡ getD (movedList x r (take r start) (layoutIn s)) i [] =
+        axes-only x (layoutIn s) (a .fits) (a .few) start (q .0) fits ∙ sym (map-at (movedBy (take r start)) (listed x r (layoutIn s)) i [] [] (q .1)) in
+        record { is = made ∙ e; low = rw e at (moved-low x (layoutIn s) (a .fits) (a .few) start (q .0) fits) }

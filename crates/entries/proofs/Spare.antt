@@ -107,12 +107,12 @@ module _ {at w : ℕ} {s : List ℤ} (a : TargetReady at w s) where
         only = only-same at windowSize s;
       })
 
-  pub list-room : roomEnd spare w ≤ length s
+  pub list-room : roomEnd otherSpare w ≤ length s
   list-room = omega (arith, a .room, a .narrow)
 
-  module _ {n : ℕ} {rows : List (List ℕ)} {u : List ℤ} {r : Bool} (p : Tabled spare w n (roomEnd spare w) rows s u r) where
+  module _ {n : ℕ} {rows : List (List ℕ)} {u : List ℤ} {r : Bool} (p : Tabled spare w n windowSize rows s u r) where
     list-only : Only at windowSize s u
-    list-only = only-wider (p .only) at windowSize (omega (arith, a .before)) (omega (arith, a .narrow))
+    list-only = only-wider (p .only) at windowSize (omega (arith, a .before)) (omega arith)
 
     -- they are not small, or too many
     pub list-over : not r ≡ true → MergedMore at w (all (smallTo n) rows) rows s u false

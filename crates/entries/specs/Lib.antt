@@ -1,3 +1,4 @@
 -- The definitions that the contracts of entries cite.
 pub mod Listing
 pub mod Merging
+pub mod Standing

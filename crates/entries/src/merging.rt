@@ -8,13 +8,16 @@ ghost use Rattle.rules.specs.Record.{layoutIn, blockAt};
 ghost use Rattle.rules.specs.Concatenate.{blockOf};
 ghost use Rattle.tables.specs.Rows.{rowAt};
 ghost use Rattle.tables.specs.Tables.{tableAt, roomEnd, Ready};
-ghost use Rattle.parts.specs.Parts.{windowSize, spare};
+ghost use Rattle.parts.specs.Parts.{windowSize, spare, otherSpare};
 ghost use Rattle.entries.specs.Listing.{movedList, axesIn};
 ghost use Rattle.entries.specs.Merging.{smallTo, SmallAsked, PutSmall, TableAsked, Tabled, TargetReady, MergedMore, entriesOf, joined, BlockAsked, AllAsked, blocksOf, leftOut};
 use super::entries::Listed;
 use super::entries::axes_in;
 use super::entries::count_of;
 use super::entries::moved_entry;
+use super::standing::Standing;
+use super::standing::move_entries;
+use super::standing::standing_of;
 use parts::OTHER_SPARE;
 use parts::SPARE;
 use rules::Head;
@@ -33,8 +36,9 @@ fn put_small(entry: [i32; 5], n: usize, window: &mut [i32], to: usize, w: usize)
     tables::put_row(window, to, w, &entry, 0)
 }
 
-// A list of a block, moved by the start of the block, becomes the table at a place; false where it has too many entries, or too large ones.
-fn list_block(
+// A list of a block, made entry by entry and moved by the start of the block, becomes the table at a place; false where it has too
+// many entries, or too large ones.
+fn list_made(
     list: Listed,
     from: &[i32],
     head: Head,
@@ -58,6 +62,38 @@ fn list_block(
         }
         i += 1;
     }
+    true
+}
+
+// A list of a block, moved by the start of the block, becomes the table in the spare part; false where it has too many entries, or too
+// large ones. Entries that stand in the record as they are listed are moved in one walk, and then put in order.
+fn list_block(
+    list: Listed,
+    from: &[i32],
+    head: Head,
+    start: [usize; 4],
+    rank: usize,
+    w: usize,
+    window: &mut [i32],
+) -> bool
+    requires { ⌜ TableAsked list head (now from) start rank w otherSpare (now window) ⌝ }
+    ensures { λ r. ⌜ Tabled spare w (axesIn list rank w) windowSize (movedList list rank (take rank start) (layoutIn (now (from .entry)))) (now (window .entry)) (now (window .exit)) r ⌝ }
+{
+    let Standing::At(rows) = standing_of(list, from, head, rank) else {
+        return list_made(list, from, head, start, rank, w, window, SPARE);
+    };
+    if !move_entries(
+        from,
+        rows,
+        start,
+        axes_in(list, rank, w),
+        w,
+        window,
+        OTHER_SPARE,
+    ) {
+        return false;
+    }
+    tables::sort_into(window, OTHER_SPARE, SPARE, w);
     true
 }
 
@@ -108,7 +144,7 @@ fn merge_block(
     let Walk::To(head) = records::walk_record(&block[record..]) else {
         return false;
     };
-    if !list_block(list, &block[record..], head, start, rank, w, window, SPARE) {
+    if !list_block(list, &block[record..], head, start, rank, w, window) {
         return false;
     }
     merge_spare(window, at, w)

@@ -40,7 +40,7 @@ no-members : (l : List ℕ) → ((k : ℕ) → List·Memᴰ k l → ⊥) → l �
 no-members [] h = refl
 no-members (x ∷ l) h = absurd (h x (List·Memᴰ·head refl))
 
-none-stretched : (shape : List ℕ) → stretchedAxes shape shape ≡ []
+pub none-stretched : (shape : List ℕ) → stretchedAxes shape shape ≡ []
 none-stretched shape = no-members (stretchedAxes shape shape) (λ k m. let h = stretched-below shape shape m in never k (h .0) (h .1))
   where
     both : (b : Bool) → b && not b ≡ false
@@ -63,7 +63,7 @@ unfolding fitTo part
 fit-same n v l e = part-at 0 n (l ++ replicate n v) l (replicate n v) refl e
 
 -- a dependency of the rank
-index-same : (n : ℕ) (d : List ℕ) → length d ≡ suc n → onIndex (fitTo n 0) d ≡ d
+pub index-same : (n : ℕ) (d : List ℕ) → length d ≡ suc n → onIndex (fitTo n 0) d ≡ d
 unfolding onIndex
 index-same n d e =
     let k : length (take (length d - 1) d) ≡ n = simp length-take (omega arith) in
@@ -75,7 +75,7 @@ unfolding yields gather takeAll
 yields-same Alone shape d = refl
 yields-same Together shape d = refl
 
-all-same : (mode : Mode) (shape : List ℕ) (deps : List (List ℕ)) → Each (λ d. length d ≡ suc (length shape)) deps →
+pub all-same : (mode : Mode) (shape : List ℕ) (deps : List (List ℕ)) → Each (λ d. length d ≡ suc (length shape)) deps →
     gather (λ d. yields mode shape [] (onIndex (fitTo (length shape) 0) d)) deps ≡ deps
 unfolding gather
 all-same mode shape [] p = refl

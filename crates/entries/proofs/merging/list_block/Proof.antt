@@ -1,92 +1,65 @@
--- `list_block`: at each turn the first i entries are small, and in the table.
-use Prim.Native.Nat.{_-_}
-use native.Mathlib.Omega.{arith}
+-- `list_block`: entries that stand as they are listed are moved in one walk and put in order, others are made one by one.
+use Rattle.entries.proofs.Placing.{ask-made, made-listed, ask-rows, walk-over, ask-sort, walk-sorted}
 use borrow.Author.Needs.{needs}
-use borrow.Author.Tests.{not-true, not-false}
-use Rattle.entries.proofs.Putting.{Tabling, table-start, ask-entry, ask-small, table-turn, table-stop, table-done}
 use Rattle.entries.proofs.merging.list_block.Statement.{statement}
 use Rattle.entries.proofs.merging.list_block.Tie as tie
 
-abbrev Inv-loop : tie.InvT-loop
-Inv-loop list from head start rank w window₀ to count n i₀ window i = Tabling list head from start rank w to count n i window₀ window
+-- where the function begins
+abbrev begin : tie.After-axes-in → tie.Start
+begin c = c .before .before .before .before .before
 
-abbrev μ-loop : tie.MeasureT-loop
-μ-loop list from head start rank w window₀ to count n i₀ window i = count - i
+list-made-requires : tie.Need-list-made-requires
+list-made-requires c κs = ask-made (c .before .before .before .before .pre)
 
-store-requires : tie.Need-store-requires Inv-loop μ-loop
-store-requires c κs = omega (arith, c .before .pre .room)
-
-count-of-requires : tie.Need-count-of-requires Inv-loop μ-loop
-count-of-requires c κs = c .before .before .before .pre .list .source
-
-axes-in-requires : tie.Need-axes-in-requires Inv-loop μ-loop
-axes-in-requires c κs = search needs
-
-loop-holds : tie.Need-loop-holds Inv-loop μ-loop
-loop-holds c =
-    let n = c .before in
-    let st = n .before .before in
-    table-start (st .before .before .pre) (st .store .ensures) (n .count-of .ensures) (c .axes-in .ensures)
-
-moved-entry-requires : tie.Need-moved-entry-requires Inv-loop μ-loop
-moved-entry-requires c κs =
-    let g = c .before .loop .inv in
-    (g .list, ask-entry g (c .loop-test .taken))
-
-put-small-requires : tie.Need-put-small-requires Inv-loop μ-loop
-put-small-requires c κs =
-    let e = c .before in
-    let i = e .before in
-    ask-small (i .before .loop .inv) (i .loop-test .taken) (e .moved-entry .result) (search needs) (e .moved-entry .ensures)
-
-same-length : tie.Need-same-length Inv-loop μ-loop
-same-length c = search needs
-
-returns : tie.Need-returns Inv-loop μ-loop
+returns : tie.Need-returns
 returns c =
-    let p = c .before .before in
-    let e = p .before .before in
-    let i = e .before in
-    let st = i .before .before .before .before .before in
-    table-stop (i .before .loop .inv) (i .loop-test .taken) (e .moved-entry .result) (search needs) (e .moved-entry .ensures) (p .put-small .ensures) (not-true (p .put-small .result) (c .if1 .taken)) (st .before .before .pre) (st .store .ensures)
+    let l = c .before in
+    made-listed (l .before .before .before .before .before .pre) (l .list-made .ensures)
 
-add-i : tie.Need-add-i Inv-loop μ-loop
-add-i c = search needs
+move-entries-requires : tie.Need-move-entries-requires
+move-entries-requires c κs =
+    let n = c .before in
+    let k = n .before .before in
+    ask-rows (begin n .pre) (k .before .before .standing-of .ensures) (k .rows .given .1) (n .axes-in .ensures)
 
-loop-less : tie.Need-loop-less Inv-loop μ-loop
-loop-less c = search needs
-
-loop-again : tie.Need-loop-again Inv-loop μ-loop
-loop-again c =
-    let p = c .before .before in
-    let e = p .before .before in
-    let i = e .before in
-    table-turn (i .before .loop .inv) (i .loop-test .taken) (e .moved-entry .result) (search needs) (e .moved-entry .ensures) (p .put-small .ensures) (not-false (p .put-small .result) (c .if1 .left))
-
-same-length-2 : tie.Need-same-length-2 Inv-loop μ-loop
-same-length-2 c = search needs
-
-returns-2 : tie.Need-returns-2 Inv-loop μ-loop
+returns-2 : tie.Need-returns-2
 returns-2 c =
-    let st = c .before .before .before .before .before in
-    table-done (c .before .loop .inv) (c .loop-test .left) (st .before .before .pre) (st .store .ensures)
+    let m = c .before .before in
+    let n = m .before .before in
+    let k = n .before .before in
+    walk-over (begin n .pre) (k .before .before .standing-of .ensures) (k .rows .given .1) (n .axes-in .ensures) (m .move-entries .ensures) (c .if1 .taken)
+
+sort-into-requires : tie.Need-sort-into-requires
+sort-into-requires c κs =
+    let e = c .before in
+    let m = e .before .before in
+    let n = m .before .before in
+    let k = n .before .before in
+    ask-sort (begin n .pre) (k .before .before .standing-of .ensures) (k .rows .given .1) (n .axes-in .ensures) (m .move-entries .ensures) (e .if1 .left)
+
+returns-3 : tie.Need-returns-3
+returns-3 c =
+    let s = c .before in
+    let e = s .before .before in
+    let m = e .before .before in
+    let n = m .before .before in
+    let k = n .before .before in
+    walk-sorted (begin n .pre) (k .before .before .standing-of .ensures) (k .rows .given .1) (n .axes-in .ensures) (m .move-entries .ensures) (e .if1 .left) (s .sort-into .ensures)
 
 pub list-block-spec : {M : Type 1} → statement M
 list-block-spec =
     tie.close
     (tie.spec
-    Inv-loop
-    μ-loop
-    store-requires
-    count-of-requires
-    axes-in-requires
-    loop-holds
-    moved-entry-requires
-    put-small-requires
-    same-length
+    (λ c κs. search needs)  -- standing-of-requires
+    (λ c. search needs)  -- enum-known-rows
+    (λ c. search needs)  -- enum-told
+    list-made-requires
+    (λ c. search needs)  -- same-length
     returns
-    add-i
-    loop-less
-    loop-again
-    same-length-2
-    returns-2)
+    (λ c κs. search needs)  -- axes-in-requires
+    move-entries-requires
+    (λ c. search needs)  -- same-length-2
+    returns-2
+    sort-into-requires
+    (λ c. search needs)  -- same-length-3
+    returns-3)
