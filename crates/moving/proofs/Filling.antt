@@ -1,4 +1,5 @@
--- `pick_sorted` and `pick_as_they_come`: the first i rows, picked, are in the table, in one arrangement or another. Assumes nothing.
+-- `pick_sorted`, `cut_sorted` and `pick_as_they_come`: what is made of the first i rows is the table, in one arrangement or another.
+-- Assumes nothing.
 use mathlib.Core.Path.{_≡_, refl, sym, ap, _∙_, subst}
 use mathlib.Core.Bool.{Bool}
 use mathlib.Core.List.{List, [], _∷_, _++_, map, Memᴰ·of-map}
@@ -19,24 +20,24 @@ use Rattle.rules.proofs.Merging.{sorted-snoc}
 use Rattle.cells.specs.View.{Low}
 use Rattle.tables.specs.Rows.{rowAt, rowsAt, HasRow}
 use Rattle.tables.specs.Tables.{tableAt, roomEnd, Only, Ready, CanInsert, Inserted, Put}
-use Rattle.tables.proofs.Rows.{length-rows, row-ends, row-of, has-row}
+use Rattle.tables.proofs.Rows.{length-rows, row-of, has-row}
 use Rattle.tables.proofs.Only.{only-same, only-then, only-set, only-wider}
 use Rattle.tables.proofs.Tables.{table-length}
 use Rattle.tables.proofs.Made.{made-ready, emptied}
 use Rattle.moving.specs.Sections.{TableMade}
-use Rattle.moving.specs.Picking.{picked, RowAsked, PickAsked}
-use Rattle.moving.proofs.Picking.{picked-low}
+use Rattle.moving.specs.Picking.{RowAsked, PickAsked}
 
--- the rows that are picked
-abbrev pub pickedRows : Entries → ℕ → List ℕ → ℕ → List ℤ → List (List ℕ)
-pickedRows rows width places w s = map (picked 0 (take w places)) (rowsAt (rows .first) width (rows .count) s)
+-- what is made of each of the rows
+abbrev pub changedRows : (List ℕ → List ℕ) → Entries → ℕ → List ℤ → List (List ℕ)
+changedRows f rows width s = map f (rowsAt (rows .first) width (rows .count) s)
 
--- the first i of them, in one arrangement or another, are the table
-pub record Filling (arranged : List (List ℕ) → List (List ℕ)) (rows : Entries) (width : ℕ) (places : List ℕ) (w : ℕ) (s : List ℤ) (at i : ℕ) (t u : List ℤ) : Type 0 where
+-- what is made of the first i of them, in one arrangement or another, is the table
+pub record Filling (arranged : List (List ℕ) → List (List ℕ)) (f : List ℕ → List ℕ) (rows : Entries) (width w : ℕ) (s : List ℤ) (at i : ℕ) (t u : List ℤ) : Type 0 where
   pub asked : PickAsked rows width w s at t
+  pub keeps-low : (row : List ℕ) → Low row → Low (f row)
   pub upto : i ≤ rows .count
   pub only : Only at (roomEnd at w) t u
-  pub table : tableAt at w u ≡ arranged (take i (pickedRows rows width places w s))
+  pub table : tableAt at w u ≡ arranged (take i (changedRows f rows width s))
 
 -- ---- none yet
 
@@ -45,19 +46,21 @@ module _ {rows : Entries} {width w : ℕ} {s : List ℤ} {at : ℕ} {t u : List 
   begun : Only at (roomEnd at w) t u
   begun = rw stored (only-wider (only-set at (pos 0) t) at (roomEnd at w) (omega arith) (omega arith))
 
-  pub start-filling : {arranged : List (List ℕ) → List (List ℕ)} (places : List ℕ) → arranged [] ≡ [] → Filling arranged rows width places w s at 0 u u
-  start-filling places e = record {
+  pub start-filling : {arranged : List (List ℕ) → List (List ℕ)} {f : List ℕ → List ℕ} → ((row : List ℕ) → Low row → Low (f row)) → arranged [] ≡ [] →
+      Filling arranged f rows width w s at 0 u u
+  start-filling low e = record {
     asked = record { has = q .has; few = q .few; narrow = q .narrow; room = rw (begun .size) (q .room) };
+    keeps-low = low;
     upto = omega arith;
     only = only-same at (roomEnd at w) u;
     table = rw (stored, emptied at w t (q .room)) (sym e);
   }
 
   -- all of them
-  pub filled : {arranged : List (List ℕ) → List (List ℕ)} {places : List ℕ} {i : ℕ} {v : List ℤ} → ((l : List (List ℕ)) → length (arranged l) ≤ length l) →
-      Filling arranged rows width places w s at i u v → rows .count ≤ i → TableMade at w (arranged (pickedRows rows width places w s)) t v
-  filled {arranged} {places} {i} few g h =
-      let all = pickedRows rows width places w s in
+  pub filled : {arranged : List (List ℕ) → List (List ℕ)} {f : List ℕ → List ℕ} {i : ℕ} {v : List ℤ} → ((l : List (List ℕ)) → length (arranged l) ≤ length l) →
+      Filling arranged f rows width w s at i u v → rows .count ≤ i → TableMade at w (arranged (changedRows f rows width s)) t v
+  filled {arranged} {f} {i} few g h =
+      let all = changedRows f rows width s in
       let count : length all ≡ rows .count = rw length-map (length-rows (rows .first) width (rows .count) s) in
       record {
         table = record {
@@ -69,10 +72,10 @@ module _ {rows : Entries} {width w : ℕ} {s : List ℤ} {at : ℕ} {t u : List 
 
 -- ---- one more
 
-module _ {arranged : List (List ℕ) → List (List ℕ)} {rows : Entries} {width : ℕ} {places : List ℕ} {w : ℕ} {s : List ℤ} {at i : ℕ} {t u : List ℤ}
-    (g : Filling arranged rows width places w s at i t u) where
+module _ {arranged : List (List ℕ) → List (List ℕ)} {f : List ℕ → List ℕ} {rows : Entries} {width w : ℕ} {s : List ℤ} {at i : ℕ} {t u : List ℤ}
+    (g : Filling arranged f rows width w s at i t u) where
   abbrev all : List (List ℕ)
-  all = pickedRows rows width places w s
+  all = changedRows f rows width s
 
   count : length all ≡ rows .count
   count = rw length-map (length-rows (rows .first) width (rows .count) s)
@@ -82,60 +85,61 @@ module _ {arranged : List (List ℕ) → List (List ℕ)} {rows : Entries} {widt
 
   all-low : Each Low all
   all-low r m =
-      let from = Memᴰ·of-map (picked 0 (take w places)) (rowsAt (rows .first) width (rows .count) s) m in
-      subst Low (from .2) (picked-low (take w places) (from .0) (g .asked .has .low (from .0) (from .1)))
+      let from = Memᴰ·of-map f (rowsAt (rows .first) width (rows .count) s) m in
+      subst Low (from .2) (g .keeps-low (from .0) (g .asked .has .low (from .0) (from .1)))
 
   module _ (h : i < rows .count) where
     -- the row lies in the slice
+    pub row-there : HasRow (rows .first + i * width) width s
+    row-there = has-row (rows .first) width (rows .count) s (g .asked .has) i h
+
     pub row-ended : rows .first + i * width + width ≤ length s
-    row-ended = omega (arith, g .asked .has .room, row-ends width h)
+    row-ended = row-there .room
 
     pub ask-row : RowAsked (rows .first + i * width) width 0 w s
     ask-row = record { room = row-ended; small = omega arith; narrow = g .asked .narrow }
 
-    module _ (row : List ℤ) (e : rowAt 0 w row ≡ picked 0 (take w places) (rowAt (rows .first + i * width) width s)) where
+    -- a row by value can be compared
+    pub row-made : (row : List ℤ) → rowAt 0 w row ≡ f (rowAt (rows .first + i * width) width s) → 5 ≤ length row → HasRow 0 w row
+    row-made row e long = record { room = omega (arith, g .asked .narrow); low = rw e (g .keeps-low (rowAt (rows .first + i * width) width s) (row-there .low)) }
+
+    module _ {x : List ℕ} (e : x ≡ f (rowAt (rows .first + i * width) width s)) where
       -- it is the next one
-      next : rowAt 0 w row ≡ getD all i []
+      next : x ≡ getD all i []
       next =
-          e ∙ ap (picked 0 (take w places)) (sym (row-of (rows .first) width (rows .count) s i h))
-          ∙ sym (map-at (picked 0 (take w places)) (rowsAt (rows .first) width (rows .count) s) i [] [] (rw length-rows h))
+          e ∙ ap f (sym (row-of (rows .first) width (rows .count) s i h))
+          ∙ sym (map-at f (rowsAt (rows .first) width (rows .count) s) i [] [] (rw length-rows h))
 
-      -- and can be compared
-      pub picked-row : 5 ≤ length row → HasRow 0 w row
-      picked-row long = record {
-        room = omega (arith, g .asked .narrow);
-        low = rw e (picked-low (take w places) (rowAt (rows .first + i * width) width s) (has-row (rows .first) width (rows .count) s (g .asked .has) i h .low));
-      }
-
-      one-more : take (i + 1) all ≡ take i all ++ (rowAt 0 w row ∷ [])
+      one-more : take (i + 1) all ≡ take i all ++ (x ∷ [])
       one-more = rw (add-one i, next) (take-suc all i [] (omega (arith, count)))
 
       -- it is in the table
-      took : {v : List ℤ} → Only at (roomEnd at w) u v → tableAt at w v ≡ arranged (take i all ++ (rowAt 0 w row ∷ [])) → Filling arranged rows width places w s at (i + 1) t v
-      took o f = record {
+      took : {v : List ℤ} → Only at (roomEnd at w) u v → tableAt at w v ≡ arranged (take i all ++ (x ∷ [])) → Filling arranged f rows width w s at (i + 1) t v
+      took o is = record {
         asked = g .asked;
+        keeps-low = g .keeps-low;
         upto = omega arith;
         only = only-then (g .only) o;
-        table = rw one-more f;
+        table = rw one-more is;
       }
 
 -- ---- in order
 
-module _ {rows : Entries} {width : ℕ} {places : List ℕ} {w : ℕ} {s : List ℤ} {at i : ℕ} {t u : List ℤ} (g : Filling sorted rows width places w s at i t u) where
+module _ {f : List ℕ → List ℕ} {rows : Entries} {width w : ℕ} {s : List ℤ} {at i : ℕ} {t u : List ℤ} (g : Filling sorted f rows width w s at i t u) where
   pub can-take : Ready at w u
   can-take =
       let some = take i (all g) in
       let low : Each Low some = each-left some (drop i (all g)) (rw take-append-drop (all-low g)) in
       made-ready (rw (g .only .size) (g .asked .room)) (g .table) (omega (arith, sorted-length some, sofar g, g .upto, g .asked .few)) (sorted-each low) (sorted-increasing some)
 
-  pub turn-sorted : (row : List ℤ) {v : List ℤ} {r : Bool} → i < rows .count → rowAt 0 w row ≡ picked 0 (take w places) (rowAt (rows .first + i * width) width s) →
-      Put at w (rowAt 0 w row) u v r → Filling sorted rows width places w s at (i + 1) t v
-  turn-sorted row h e p =
+  pub turn-sorted : i < rows .count → {x : List ℕ} → x ≡ f (rowAt (rows .first + i * width) width s) → {v : List ℤ} {r : Bool} → Put at w x u v r →
+      Filling sorted f rows width w s at (i + 1) t v
+  turn-sorted h {x} e p =
       let some = take i (all g) in
-      let is : insert (rowAt 0 w row) (tableAt at w u) ≡ sorted (some ++ (rowAt 0 w row ∷ [])) = rw (g .table) (sym (sorted-snoc some (rowAt 0 w row))) in
-      let few : length (insert (rowAt 0 w row) (tableAt at w u)) ≤ entryLimit =
-      rw (g .table) (omega (arith, insert-length-most (rowAt 0 w row) (sorted some), sorted-length some, sofar g, g .asked .few)) in
-      took g h row e (p .only) (p .table (p .verdict ∙ le-leb (length (insert (rowAt 0 w row) (tableAt at w u))) entryLimit few) ∙ is)
+      let is : insert x (tableAt at w u) ≡ sorted (some ++ (x ∷ [])) = rw (g .table) (sym (sorted-snoc some x)) in
+      let few : length (insert x (tableAt at w u)) ≤ entryLimit =
+      rw (g .table) (omega (arith, insert-length-most x (sorted some), sorted-length some, sofar g, g .asked .few)) in
+      took g h e (p .only) (p .table (p .verdict ∙ le-leb (length (insert x (tableAt at w u))) entryLimit few) ∙ is)
 
 -- no rows, sorted, are none
 pub sorted-none : sorted [] ≡ []
@@ -148,7 +152,7 @@ sorted-none = refl
 abbrev pub asTheyCome : List (List ℕ) → List (List ℕ)
 asTheyCome l = l
 
-module _ {rows : Entries} {width : ℕ} {places : List ℕ} {w : ℕ} {s : List ℤ} {at i : ℕ} {t u : List ℤ} (g : Filling asTheyCome rows width places w s at i t u) (h : i < rows .count) where
+module _ {f : List ℕ → List ℕ} {rows : Entries} {width w : ℕ} {s : List ℤ} {at i : ℕ} {t u : List ℤ} (g : Filling asTheyCome f rows width w s at i t u) (h : i < rows .count) where
   pub can-add : CanInsert at w i i u
   can-add = record {
     room = rw (g .only .size) (g .asked .room);
@@ -157,18 +161,11 @@ module _ {rows : Entries} {width : ℕ} {places : List ℕ} {w : ℕ} {s : List 
     upto = omega arith;
   }
 
-  pub turn-added : (row : List ℤ) {v : List ℤ} → rowAt 0 w row ≡ picked 0 (take w places) (rowAt (rows .first + i * width) width s) →
-      Inserted at w i (rowAt 0 w row) u v → Filling asTheyCome rows width places w s at (i + 1) t v
-  turn-added row e p =
+  pub turn-added : {x : List ℕ} → x ≡ f (rowAt (rows .first + i * width) width s) → {v : List ℤ} → Inserted at w i x u v → Filling asTheyCome f rows width w s at (i + 1) t v
+  turn-added e p =
       let some = take i (all g) in
       let none-left : drop i some ≡ [] = drop-of-length-le some {i = i} (omega (arith, sofar g)) in
-      took g h row e (p .only) (p .table ∙ rw (g .table, take-all i some (omega (arith, sofar g)), none-left))
+      took g h e (p .only) (p .table ∙ rw (g .table, take-all i some (omega (arith, sofar g)), none-left))
 
 pub same-many : (l : List (List ℕ)) → length (asTheyCome l) ≤ length l
 same-many l = omega arith
-
-pub ruleset rows-laws = (row-ended, ask-row, picked-row)
-
-pub ruleset sorted-laws = (start-filling, filled, can-take, turn-sorted, sorted-length, sorted-none)
-
-pub ruleset added-laws = (start-filling, filled, can-add, turn-added, same-many)

@@ -1,4 +1,4 @@
--- Rows and dependencies cut short, picked by their places. Assumes nothing.
+-- Dependencies cut short, picked by their places. Assumes nothing.
 use mathlib.Core.Path.{_≡_, refl, sym, ap, _∙_}
 use mathlib.Core.List.{List, [], _∷_, _++_, map}
 use Prim.Native.Nat.{ℕ, suc, _+_, _-_, _<_, _≤_}
@@ -46,19 +46,6 @@ module _ {kept : ℕ} (r : ℕ) (few : kept ≤ 4) where
   picked-number n row k h l =
       picked-at 0 (take n (shorterPlaces kept r)) row k (omega (arith, first-places n h))
       ∙ ap (λ (j : ℕ). getD row j 0) (getD-take n (shorterPlaces kept r) k 0 l)
-
-  -- ---- a row
-
-  pub row-shortened : (row : List ℕ) → kept ≤ length row → picked 0 (take kept (shorterPlaces kept r)) row ≡ take kept row
-  row-shortened row e =
-      ext-getD 0 (picked 0 (take kept (shorterPlaces kept r)) row) (take kept row) (size ∙ sym (length-take-le kept row e))
-      (λ k h. at k (omega (arith, size)))
-    where
-      size : length (picked 0 (take kept (shorterPlaces kept r)) row) ≡ kept
-      size = picked-length 0 (take kept (shorterPlaces kept r)) row ∙ first-places kept (omega arith)
-
-      at : (k : ℕ) → k < kept → getD (picked 0 (take kept (shorterPlaces kept r)) row) k 0 ≡ getD (take kept row) k 0
-      at k h = picked-number kept row k (omega arith) h ∙ ap (λ (j : ℕ). getD row j 0) (place-before k h) ∙ sym (getD-take kept row k 0 h)
 
   -- ---- a dependency
 

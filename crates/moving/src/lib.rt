@@ -121,6 +121,20 @@ pub fn pick_as_they_come(
     }
 }
 
+// Rows, each cut to its first w numbers, become the table at a place of a part, in order and once each.
+pub fn cut_sorted(s: &[i32], rows: Entries, width: usize, w: usize, part: &mut [i32], at: usize)
+    requires { ⌜ PickAsked rows width w (now s) at (now part) ⌝ }
+    requires { ⌜ w ≤ width ⌝ }
+    ensures { λ _. ⌜ TableMade at w (sorted (map (take w) (rowsAt (rows .first) width (rows .count) (now (s .entry))))) (now (part .entry)) (now (part .exit)) ⌝ }
+{
+    cells::store(part, at, 0);
+    let mut i = 0;
+    while i < rows.count {
+        tables::put_row(part, at, w, s, rows.first + i * width);
+        i += 1;
+    }
+}
+
 // The dependencies of a record, each picked to w numbers, become those of a part.
 pub fn pick_deps(s: &[i32], head: Head, places: [usize; 5], w: usize, part: &mut [i32])
     requires { ⌜ SoundRecord head (now s) ⌝ }

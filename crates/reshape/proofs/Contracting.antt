@@ -153,14 +153,13 @@ module _ {h : Head} {s t : List ℤ} (q : SumAsked h s t) where
       within = rw (row-there (q .sound)) (le-leb (nonzeroProduct (shortened (l .shape))) productLimit (omega (arith, nonzero-take (length (l .shape) - 1) (l .shape), layout-sound (q .sound) .sizes .product-most)));
     }
 
-    module _ {places : List ℕ} (e : places ≡ shorterPlaces (h .rank - 1) (h .rank)) {u : List ℤ}
-        (p : TableMade rowsFrom (h .rank - 1) (sorted (map (picked 0 (take (h .rank - 1) places)) (rowsAt (h .rows .first) (h .width) (h .rows .count) s))) t u) where
+    module _ {u : List ℤ} (p : TableMade rowsFrom (h .rank - 1) (sorted (map (take (h .rank - 1)) (rowsAt (h .rows .first) (h .width) (h .rows .count) s))) t u) where
       rows-made : TableMade rowsFrom (h .rank - 1) rows t u
       rows-made =
-          let same : map (picked 0 (take (h .rank - 1) (shorterPlaces (h .rank - 1) (h .rank)))) (l .rows) ≡ map shortened (l .rows) =
+          let same : map (take (h .rank - 1)) (l .rows) ≡ map shortened (l .rows) =
           rows-shortened (q .axis) few (λ r m. layout-sound (q .sound) .form .row-lengths r m ∙ omega (arith, rank-shown (q .sound), none-dense n)) in
-          let there : map (picked 0 (take (h .rank - 1) places)) (rowsAt (h .rows .first) (h .width) (h .rows .count) s) ≡ map shortened (l .rows) =
-          rw (e, ← ap (λ (x : Layout). x .rows) (layout-shown (q .sound))) same in
+          let there : map (take (h .rank - 1)) (rowsAt (h .rows .first) (h .width) (h .rows .count) s) ≡ map shortened (l .rows) =
+          rw (← ap (λ (x : Layout). x .rows) (layout-shown (q .sound))) same in
           rw there at p
 
       module _ {count size : ℕ} (count-is : count ≡ getD (view u) rowsFrom 0) (size-is : size ≡ product (rowAt 3 (h .rank - 1) s)) where

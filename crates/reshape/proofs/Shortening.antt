@@ -1,4 +1,4 @@
--- Rows and dependencies without the last component, picked by their places. Assumes nothing.
+-- Rows cut before the last component, and dependencies without it, picked by their places. Assumes nothing.
 use mathlib.Core.Path.{_≡_, ap, _∙_}
 use mathlib.Core.List.{List, map}
 use Prim.Native.Nat.{ℕ, suc, _-_, _<_, _≤_}
@@ -9,17 +9,15 @@ use Rattle.rules.specs.RowsInOrder.{sorted, Each}
 use Rattle.rules.specs.Dependencies.{indexOf, onIndex}
 use Rattle.rules.specs.ContractLastAxis.{shortened, shortenedDeps}
 use Rattle.moving.specs.Picking.{picked, shorterPlaces}
-use Rattle.moving.proofs.Shortening.{map-alike, row-shortened, dep-shortened}
+use Rattle.moving.proofs.Shortening.{map-alike, dep-shortened}
 
 module _ {r : ℕ} (some : 0 < r) (few : r ≤ 4) where
   -- all but the last of r
   all-but-last : (row : List ℕ) → length row ≡ r → take (r - 1) row ≡ shortened row
   all-but-last row e = rw e
 
-  pub rows-shortened : {rows : List (List ℕ)} → Each (λ row. length row ≡ r) rows → map (picked 0 (take (r - 1) (shorterPlaces (r - 1) r))) rows ≡ map shortened rows
-  rows-shortened {rows} e =
-      map-alike (picked 0 (take (r - 1) (shorterPlaces (r - 1) r))) shortened rows
-      (λ row m. row-shortened {kept = r - 1} r (omega arith) row (omega (arith, e row m)) ∙ all-but-last row (e row m))
+  pub rows-shortened : {rows : List (List ℕ)} → Each (λ row. length row ≡ r) rows → map (take (r - 1)) rows ≡ map shortened rows
+  rows-shortened {rows} e = map-alike (take (r - 1)) shortened rows (λ row m. all-but-last row (e row m))
 
   last-dropped : (d : List ℕ) → length d ≡ suc r → onIndex (take (r - 1)) d ≡ onIndex shortened d
   unfolding onIndex

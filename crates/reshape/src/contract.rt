@@ -50,8 +50,7 @@ fn sum_rows(record: &[i32], head: Head, part: &mut [i32])
     let rank = head.rank - 1;
     let last = head.rank + records::RANK;
     let rows = head.rows;
-    let places = moving::shorter_places(rank, head.rank);
-    moving::pick_sorted(record, rows, head.width, places, rank, part, parts::ROWS);
+    moving::cut_sorted(record, rows, head.width, rank, part, parts::ROWS);
     if cells::get(part, parts::ROWS) == axes::product(record, records::EXTENTS, rank) {
         cells::store(part, parts::ROWS, 0);
         moving::write_head(part, 0, rank, &record[records::EXTENTS..last]);

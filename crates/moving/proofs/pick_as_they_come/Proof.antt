@@ -1,22 +1,23 @@
 -- `pick_as_they_come`: at each turn the first i rows, picked, are the table.
+use mathlib.Core.Path.{refl}
 use Prim.Native.Nat.{_-_}
 use native.Mathlib.Omega.{arith}
+use lib.ListN.{take}
 use borrow.Author.Needs.{needs}
-use Rattle.moving.proofs.Filling.{Filling, asTheyCome, row-ended, picked-row, can-add, turn-added, filled, same-many, rows-laws, added-laws}
+use Rattle.moving.specs.Picking.{picked}
+use Rattle.moving.proofs.Picking.{picked-low}
+use Rattle.moving.proofs.Filling.{Filling, asTheyCome, start-filling, row-ended, ask-row, row-made, can-add, turn-added, filled, same-many}
 use Rattle.moving.proofs.pick_as_they_come.Statement.{statement}
 use Rattle.moving.proofs.pick_as_they_come.Tie as tie
 
 abbrev Inv-loop : tie.InvT-loop
-Inv-loop s rows width places w part₀ at i₀ part i = Filling asTheyCome rows width places w s at i part₀ part
+Inv-loop s rows width places w part₀ at i₀ part i = Filling asTheyCome (picked 0 (take w places)) rows width w s at i part₀ part
 
 abbrev μ-loop : tie.MeasureT-loop
 μ-loop s rows width places w part₀ at i₀ part i = rows .count - i
 
-store-requires : tie.Need-store-requires Inv-loop μ-loop
-store-requires c κs = search (needs, rows-laws, added-laws)
-
 loop-holds : tie.Need-loop-holds Inv-loop μ-loop
-loop-holds c = search (needs, rows-laws, added-laws)
+loop-holds c = start-filling (c .before .before .before .pre) (c .before .store .ensures) (picked-low _) refl
 
 mul-picked-row : tie.Need-mul-picked-row Inv-loop μ-loop
 mul-picked-row c = omega (arith, row-ended (c .before .before .loop .inv) (c .if1 .taken))
@@ -25,33 +26,21 @@ add-picked-row : tie.Need-add-picked-row Inv-loop μ-loop
 add-picked-row c = omega (arith, row-ended (c .before .before .before .loop .inv) (c .before .if1 .taken))
 
 picked-row-requires : tie.Need-picked-row-requires Inv-loop μ-loop
-picked-row-requires c κs = search (needs, rows-laws, added-laws)
-
-slice-aggregate-insert-at : tie.Need-slice-aggregate-insert-at Inv-loop μ-loop
-slice-aggregate-insert-at c = search (needs, rows-laws, added-laws)
+picked-row-requires c κs = ask-row (c .before .before .before .loop .inv) (c .before .if1 .taken)
 
 insert-at-requires : tie.Need-insert-at-requires Inv-loop μ-loop
 insert-at-requires c κs =
     let picked = c .before .before in
     let more = picked .before .before in
     let g = more .before .before .loop .inv in
-    (can-add g (more .if1 .taken), picked-row g (more .if1 .taken) _ (picked .picked-row .ensures) (search needs) .room)
-
-add-i : tie.Need-add-i Inv-loop μ-loop
-add-i c = search (needs, rows-laws, added-laws)
-
-loop-less : tie.Need-loop-less Inv-loop μ-loop
-loop-less c = search (needs, rows-laws, added-laws)
+    (can-add g (more .if1 .taken), row-made g (more .if1 .taken) _ (picked .picked-row .ensures) (search needs) .room)
 
 loop-again : tie.Need-loop-again Inv-loop μ-loop
 loop-again c =
     let put = c .before in
     let picked = put .before .before .before in
     let more = picked .before .before in
-    turn-added (more .before .before .loop .inv) (more .if1 .taken) _ (picked .picked-row .ensures) (put .insert-at .ensures)
-
-same-length : tie.Need-same-length Inv-loop μ-loop
-same-length c = search (needs, rows-laws, added-laws)
+    turn-added (more .before .before .loop .inv) (more .if1 .taken) (picked .picked-row .ensures) (put .insert-at .ensures)
 
 returns : tie.Need-returns Inv-loop μ-loop
 returns c =
@@ -65,15 +54,15 @@ pick-as-they-come-spec =
     (tie.spec
     Inv-loop
     μ-loop
-    store-requires
+    (λ c κs. search needs)  -- store-requires
     loop-holds
     mul-picked-row
     add-picked-row
     picked-row-requires
-    slice-aggregate-insert-at
+    (λ c. search needs)  -- slice-aggregate-insert-at
     insert-at-requires
-    add-i
-    loop-less
+    (λ c. search needs)  -- add-i
+    (λ c. search needs)  -- loop-less
     loop-again
-    same-length
+    (λ c. search needs)  -- same-length
     returns)

@@ -1,24 +1,24 @@
 -- `pick_sorted`: at each turn the first i rows, picked, are in the table, in order and once each.
 use Prim.Native.Nat.{_-_}
 use native.Mathlib.Omega.{arith}
+use lib.ListN.{take}
 use borrow.Author.Needs.{needs}
 use Rattle.rules.specs.RowsInOrder.{sorted}
 use Rattle.rules.proofs.Sorting.{sorted-length}
-use Rattle.moving.proofs.Filling.{Filling, row-ended, picked-row, can-take, turn-sorted, filled, rows-laws, sorted-laws}
+use Rattle.moving.specs.Picking.{picked}
+use Rattle.moving.proofs.Picking.{picked-low}
+use Rattle.moving.proofs.Filling.{Filling, start-filling, row-ended, ask-row, row-made, can-take, turn-sorted, filled, sorted-none}
 use Rattle.moving.proofs.pick_sorted.Statement.{statement}
 use Rattle.moving.proofs.pick_sorted.Tie as tie
 
 abbrev Inv-loop : tie.InvT-loop
-Inv-loop s rows width places w part₀ at i₀ part i = Filling sorted rows width places w s at i part₀ part
+Inv-loop s rows width places w part₀ at i₀ part i = Filling sorted (picked 0 (take w places)) rows width w s at i part₀ part
 
 abbrev μ-loop : tie.MeasureT-loop
 μ-loop s rows width places w part₀ at i₀ part i = rows .count - i
 
-store-requires : tie.Need-store-requires Inv-loop μ-loop
-store-requires c κs = search (needs, rows-laws, sorted-laws)
-
 loop-holds : tie.Need-loop-holds Inv-loop μ-loop
-loop-holds c = search (needs, rows-laws, sorted-laws)
+loop-holds c = start-filling (c .before .before .before .pre) (c .before .store .ensures) (picked-low _) sorted-none
 
 mul-picked-row : tie.Need-mul-picked-row Inv-loop μ-loop
 mul-picked-row c = omega (arith, row-ended (c .before .before .loop .inv) (c .if1 .taken))
@@ -27,33 +27,21 @@ add-picked-row : tie.Need-add-picked-row Inv-loop μ-loop
 add-picked-row c = omega (arith, row-ended (c .before .before .before .loop .inv) (c .before .if1 .taken))
 
 picked-row-requires : tie.Need-picked-row-requires Inv-loop μ-loop
-picked-row-requires c κs = search (needs, rows-laws, sorted-laws)
-
-slice-aggregate-put-row : tie.Need-slice-aggregate-put-row Inv-loop μ-loop
-slice-aggregate-put-row c = search (needs, rows-laws, sorted-laws)
+picked-row-requires c κs = ask-row (c .before .before .before .loop .inv) (c .before .if1 .taken)
 
 put-row-requires : tie.Need-put-row-requires Inv-loop μ-loop
 put-row-requires c κs =
     let picked = c .before .before in
     let more = picked .before .before in
     let g = more .before .before .loop .inv in
-    (can-take g, picked-row g (more .if1 .taken) _ (picked .picked-row .ensures) (search needs))
-
-add-i : tie.Need-add-i Inv-loop μ-loop
-add-i c = search (needs, rows-laws, sorted-laws)
-
-loop-less : tie.Need-loop-less Inv-loop μ-loop
-loop-less c = search (needs, rows-laws, sorted-laws)
+    (can-take g, row-made g (more .if1 .taken) _ (picked .picked-row .ensures) (search needs))
 
 loop-again : tie.Need-loop-again Inv-loop μ-loop
 loop-again c =
     let put = c .before in
     let picked = put .before .before .before in
     let more = picked .before .before in
-    turn-sorted (more .before .before .loop .inv) _ (more .if1 .taken) (picked .picked-row .ensures) (put .put-row .ensures)
-
-same-length : tie.Need-same-length Inv-loop μ-loop
-same-length c = search (needs, rows-laws, sorted-laws)
+    turn-sorted (more .before .before .loop .inv) (more .if1 .taken) (picked .picked-row .ensures) (put .put-row .ensures)
 
 returns : tie.Need-returns Inv-loop μ-loop
 returns c =
@@ -67,15 +55,15 @@ pick-sorted-spec =
     (tie.spec
     Inv-loop
     μ-loop
-    store-requires
+    (λ c κs. search needs)  -- store-requires
     loop-holds
     mul-picked-row
     add-picked-row
     picked-row-requires
-    slice-aggregate-put-row
+    (λ c. search needs)  -- slice-aggregate-put-row
     put-row-requires
-    add-i
-    loop-less
+    (λ c. search needs)  -- add-i
+    (λ c. search needs)  -- loop-less
     loop-again
-    same-length
+    (λ c. search needs)  -- same-length
     returns)
