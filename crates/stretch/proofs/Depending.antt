@@ -98,5 +98,3 @@ module _ {mode : Mode} {first count old : ℕ} {src : List ℤ} {at rank : ℕ} 
 
           pub stop : r ≡ false → Taken to (rank + 1) (inTurn (yieldOf mode first old src (rowAt at rank shape)) count) s u false
           stop e = taken-halt [] (yieldOf mode first old src (rowAt at rank shape)) (g .taken) one count h e
-
-pub ruleset laws = (start, all-yielded, ask-fit, ask-entry, turn, stop, done)

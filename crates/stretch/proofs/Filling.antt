@@ -78,6 +78,7 @@ module _ {h : Head} {src : List ℤ} {at n : ℕ} {shape s : List ℤ} (a : Fill
         let b = lies source in
         record {
           room = rows-room (source .readable);
+          few = b .rows-few;
           narrow = omega (arith, b .narrow, b .rank-few);
           rows-small = λ r m k i. omega (arith, rows-low sound r m k);
           extents-are = record {
@@ -119,6 +120,7 @@ module _ {h : Head} {src : List ℤ} {at n : ℕ} {shape s : List ℤ} (a : Fill
         pub ask-states : DepsAsked (h .states .first) (h .states .count) (h .rank) src at n shape statesFrom t
         ask-states = record {
           rows = has-states (source .readable);
+          few = lies source .states-few;
           shapes = a .asked .shapes;
           room = omega (arith, p .only .size, a .room, a .asked .shapes .new-few);
         }
@@ -157,6 +159,7 @@ module _ {h : Head} {src : List ℤ} {at n : ℕ} {shape s : List ℤ} (a : Fill
             pub ask-inputs : DepsAsked (h .inputs .first) (h .inputs .count) (h .rank) src at n shape inputsFrom u
             ask-inputs = record {
               rows = has-inputs (source .readable);
+              few = lies source .inputs-few;
               shapes = a .asked .shapes;
               room = omega (arith, both-only .size, a .room, a .asked .shapes .new-few);
             }

@@ -159,5 +159,3 @@ module _ {first count w : ℕ} {src extents : List ℤ} {size : ℕ} {s : List �
 
         pub list-stop : r ≡ false → Taken rowsFrom w (inTurn (givenBy first w src (rowAt 0 w extents)) count) s u false
         list-stop e = taken-halt [] (givenBy first w src (rowAt 0 w extents)) (g .taken) one-given count h e
-
-pub ruleset listings = (list-start, all-listed, ask-moves, list-turn, list-stop, list-done)

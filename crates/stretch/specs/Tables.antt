@@ -5,7 +5,7 @@ use Prim.Native.Nat.{ℕ, _+_, _*_, _^_, _≤_, _<_}
 use lib.IntN.{ℤ}
 use lib.ListN.{length, getD}
 use Rattle.rules.specs.declared.Mode.{Mode}
-use Rattle.rules.specs.Limits.{productLimit}
+use Rattle.rules.specs.Limits.{entryLimit, productLimit}
 use Rattle.rules.specs.Lists.{if, gather, below, product}
 use Rattle.rules.specs.RowsInOrder.{Each}
 use Rattle.rules.specs.Positions.{unravel}
@@ -49,6 +49,7 @@ pub record Cleared (old new d r : List ℕ) : Type 0 where
 -- some dependencies of a record, both shapes, and room for a table
 pub record DepsAsked (first count old : ℕ) (from : List ℤ) (at rank : ℕ) (shape : List ℤ) (to : ℕ) (s : List ℤ) : Type 0 where
   pub rows : HasRows first (old + 1) count from
+  pub few : count ≤ entryLimit
   pub shapes : Shapes old from at rank shape
   pub room : roomEnd to (rank + 1) ≤ length s
 
@@ -86,6 +87,7 @@ pub record MovesAsked (at w : ℕ) (from extents : List ℤ) (size to : ℕ) (s 
 -- some rows of a record with small numbers, extents, and room for rows
 pub record RowsAsked (first count w : ℕ) (from extents s : List ℤ) : Type 0 where
   pub room : first + count * w ≤ length from
+  pub few : count ≤ entryLimit
   pub narrow : w ≤ 4
   pub rows-small : Each (λ r. (k : ℕ) → k < w → getD r k 0 ≤ productLimit) (rowsAt first w count from)
   pub extents-are : Extents 0 w extents

@@ -10,6 +10,7 @@ ghost use Rattle.stretch.specs.Spread.{Shapes, extentsIn};
 ghost use Rattle.stretch.specs.Tables.{inTurn, ValuesAsked, EntryAsked, yieldOn, Cleared, DepsAsked, yielded};
 use super::every::put_moved;
 use super::spread::is_stretched;
+use super::spread::same_shape;
 use super::spread::spread_extents;
 use rules::Entries;
 use rules::Mode;
@@ -150,7 +151,8 @@ fn put_yield(
     }
 }
 
-// What the dependencies yield in a mode becomes a table of the part, in order and once each; false where they are too many.
+// What the dependencies yield in a mode becomes a table of the part, in order and once each; false where they are too many. Where the shape
+// stays, each yields itself.
 pub fn stretch_deps(
     mode: Mode,
     from: &[i32],
@@ -167,6 +169,10 @@ pub fn stretch_deps(
 {
     let first = deps.first;
     let count = deps.count;
+    if same_shape(from, old, shape, at, rank) {
+        tables::sort_from(from, first, count, rank + 1, part, to);
+        return true;
+    }
     cells::store(part, to, 0);
     let mut i = 0;
     while i < count {

@@ -5,7 +5,8 @@ ghost use Rattle.parts.specs.Parts.{rowsFrom};
 ghost use Rattle.stretch.specs.Tables.{RowsAsked, movedRows};
 use super::every::put_moved;
 
-// Each of the rows plus each index of the extents becomes a row of the part, in order and once; false where they are too many.
+// Each of the rows plus each index of the extents becomes a row of the part, in order and once; false where they are too many. Where
+// there is one index, the rows stay as they are.
 pub fn stretch_rows(
     from: &[i32],
     first: usize,
@@ -17,8 +18,12 @@ pub fn stretch_rows(
     requires { ⌜ RowsAsked first count w (now from) extents (now part) ⌝ }
     ensures { λ r. ⌜ Listed rowsFrom w (movedRows first count w (now (from .entry)) (rowAt 0 w extents)) (now (part .entry)) (now (part .exit)) r ⌝ }
 {
-    cells::store(part, parts::ROWS, 0);
     let size = axes::product(&extents, 0, w);
+    if size == 1 {
+        tables::sort_from(from, first, count, w, part, parts::ROWS);
+        return true;
+    }
+    cells::store(part, parts::ROWS, 0);
     let mut i = 0;
     while i < count {
         if !put_moved(from, first + i * w, w, extents, size, part, parts::ROWS) {

@@ -4,7 +4,7 @@ ghost use mathlib.Core.Bool.{_||_};
 ghost use Prim.Native.Nat.{_+_, _≤_, _<_};
 ghost use lib.Dec.{eqb};
 ghost use lib.ListN.{length, drop};
-ghost use Rattle.rules.specs.Lists.{all, fitTo};
+ghost use Rattle.rules.specs.Lists.{all, same, fitTo};
 ghost use Rattle.rules.specs.Stretching.{sharedAxesFit, isStretched};
 ghost use Rattle.cells.specs.View.{view};
 ghost use Rattle.tables.specs.Rows.{rowAt};
@@ -33,6 +33,17 @@ pub fn shared_fit(from: &[i32], old: usize, shape: &[i32], at: usize, rank: usiz
         }
     }
     true
+}
+
+// Whether the new shape is the old one.
+pub fn same_shape(from: &[i32], old: usize, shape: &[i32], at: usize, rank: usize) -> bool
+    requires { ⌜ Shapes old (now from) at rank (now shape) ⌝ }
+    ensures { λ r. ⌜ r ≡ same (extentsIn old (now (from .entry))) (rowAt at rank (now (shape .entry))) ⌝ }
+{
+    if old != rank {
+        return false;
+    }
+    tables::same_numbers(from, EXTENTS, shape, at, rank)
 }
 
 // Whether each axis from a rank on has extent 1.
