@@ -3,6 +3,7 @@
 --     Agreed       their common shape
 --     Comparing    whether two layouts of a window are the same
 --     Folds        the folds of a list, from the last
+--     Carrying     what is folded becomes the left layout of a window
 --     Steps        one fold after the other in a window
 --     Ended        what a folded layout becomes in its part
 --     Whole        a whole broadcast
@@ -10,6 +11,7 @@ pub mod Bringing
 pub mod Agreed
 pub mod Comparing
 pub mod Folds
+pub mod Carrying
 pub mod Steps
 pub mod Ended
 pub mod Whole

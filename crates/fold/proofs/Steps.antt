@@ -2,8 +2,8 @@
 use mathlib.Core.Path.{_≡_, refl, sym, ap, _∙_}
 use mathlib.Core.Bool.{Bool, true, false, _&&_}
 use mathlib.Core.List.{List, [], _∷_, reverse, reverse-append}
-use mathlib.Core.Logic.{inl, inr, _⊎_}
-use Prim.Native.Nat.{ℕ, suc, _+_, _-_, _*_, _<_, _≤_}
+use mathlib.Core.Logic.{inl}
+use Prim.Native.Nat.{ℕ, suc, _-_, _*_, _<_, _≤_}
 use native.Mathlib.Omega.{arith}
 use lib.IntN.{ℤ}
 use lib.ListN.{length, getD, take, drop, length-map, List·getD-map}
@@ -17,7 +17,6 @@ use Rattle.rules.specs.declared.Rule.{Rule}
 use Rattle.rules.specs.declared.Rule.the-variants.{Unite, Multiply, Divide}
 use Rattle.rules.specs.declared.Step.{Step}
 use Rattle.rules.specs.declared.Step.the-variants.{Done, Refused}
-use Rattle.rules.specs.Buffers.{part, put}
 use Rattle.rules.specs.RowsInOrder.{increasing}
 use Rattle.rules.specs.Refusals.{Verdict, given, refused, _then_, numberOf, lowest}
 use Rattle.rules.specs.Layout.{Layout}
@@ -26,14 +25,13 @@ use Rattle.rules.specs.Union.{union}
 use Rattle.rules.specs.Intersect.{intersect}
 use Rattle.rules.specs.Stretching.{stretched}
 use Rattle.rules.specs.Broadcast.{combine, dividesBySparse, foldBack}
-use Rattle.rules.proofs.Buffers.{length-part, length-put, part-put-all}
 use Rattle.rules.proofs.Sets.{increasing-true, true-increasing}
 use Rattle.rules.proofs.Stretching.{stretch-increasing}
 use Rattle.records.proofs.EndToEnd.{to-end}
 use Rattle.tables.specs.Tables.{Only}
-use Rattle.parts.specs.Parts.{partSize, windowSize, left, right, target, layoutAt, Holds}
+use Rattle.parts.specs.Parts.{windowSize, left, right, target, layoutAt, Holds}
 use Rattle.parts.specs.Answers.{Says}
-use Rattle.parts.proofs.Holds.{Moved, layout-moved, holds-moved, layout-outside, holds-outside}
+use Rattle.parts.proofs.Holds.{layout-outside, holds-outside}
 use Rattle.parts.proofs.Lent.{lentOf, backIn, back-only, back-layout, back-holds}
 use Rattle.combine.specs.Window.{Combined}
 use Rattle.intersecting.specs.Intersecting.{OrderedWindow}
@@ -42,7 +40,7 @@ use Rattle.lists.specs.Records.{layoutsAt}
 use Rattle.lists.proofs.Beginning.{length-standing, standing-at}
 use Rattle.fold.specs.declared.agreeing.Shape.{Shape}
 use Rattle.fold.specs.Stretched.{extentsOf, BringAsked, AllBringable, Brought, stretchedTo, allStretched}
-use Rattle.fold.specs.Folded.{foldOne, foldFrom, LeftReady, LeftIs, Folded}
+use Rattle.fold.specs.Folded.{foldOne, foldFrom, LeftReady, LeftIs, Folded, Carried}
 use Rattle.rules.proofs.Folding.{combine-in-order}
 use Rattle.parts.proofs.Saying.{never-done, says-refused, refused-said, done-said}
 use Rattle.fold.proofs.Folds.{fold-back}
@@ -96,35 +94,21 @@ module _ (first : Bool) (rule : Rule) {s : List ℤ} (o : OrderedWindow s) {b : 
       room : windowSize ≤ length t
       room = rw (c .only .size) (o .window .room)
 
-      pub ask-move : (target + partSize ≤ length t) × (left + partSize ≤ length t)
-      ask-move = (omega (arith, room), omega (arith, room))
+      module _ (g : step ≡ Done) where
+        pub held : Holds target t
+        held = c .says .holds g
 
-      pub next-done : step ≡ Done → {u : List ℤ} → u ≡ put left (part target partSize t) t → Folded fold u Done
-      next-done g {u} m = record {
-        says = record { is = sym (free ∙ made); holds = λ _. there };
-        ready = λ _. record { holds = there; ordered = true-increasing (combine-in-order _ _ (increasing-true _ (o .left-ordered)) (increasing-true _ (o .right-ordered)) rule made); room = rw size room };
-      }
-        where
-          copied : length (part target partSize t) ≡ partSize
-          copied = length-part target partSize t (ask-move .0)
+        pub next-done : {u : List ℤ} → Carried t u → Folded fold u Done
+        next-done {u} m = record {
+          says = record { is = sym (free ∙ made); holds = λ _. there };
+          ready = λ _. record { holds = there; ordered = true-increasing (combine-in-order _ _ (increasing-true _ (o .left-ordered)) (increasing-true _ (o .right-ordered)) rule made); room = rw (m .size) room };
+        }
+          where
+            there : Holds left u
+            there = record { inside = rw (m .size) (omega (arith, room)); sound = rw (m .layout) (held .sound); low = rw (m .layout) (held .low) }
 
-          size : length u ≡ length t
-          size = rw m (length-put left (part target partSize t) t (rw copied (ask-move .1)))
-
-          same : Moved target left t u
-          same = record { numbers = rw m (rw copied at (part-put-all left (part target partSize t) t (omega (arith, copied, ask-move .1)))) }
-
-          held : Holds target t
-          held = c .says .holds g
-
-          there : Holds left u
-          there = holds-moved same held (rw size (ask-move .1))
-
-          made : combine rule (layoutAt left s) (layoutAt right s) ≡ given (layoutAt left u)
-          made = done-said (c .says) g ∙ ap given (sym (layout-moved same held))
-
-pub move-apart : (target + partSize ≤ left) ⊎ (left + partSize ≤ target)
-move-apart = inr (omega arith)
+            made : combine rule (layoutAt left s) (layoutAt right s) ≡ given (layoutAt left u)
+            made = done-said (c .says) g ∙ ap given (sym (m .layout))
 
 -- ---- `bring_left` and `fold_onto`
 

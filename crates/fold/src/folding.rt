@@ -6,21 +6,22 @@ ghost use Prim.Native.Nat.{_≤_};
 ghost use lib.ListN.{length, drop};
 ghost use Rattle.rules.specs.CountsAndForms.{eqNonzeros};
 ghost use Rattle.rules.specs.Broadcast.{combine, dividesBySparse, foldBack};
-ghost use Rattle.parts.specs.Parts.{left, right, windowSize, layoutAt, Window};
+ghost use Rattle.parts.specs.Parts.{left, right, target, windowSize, layoutAt, Holds, Window};
 ghost use Rattle.parts.specs.Answers.{Says};
 ghost use Rattle.combine.specs.Window.{Combined};
 ghost use Rattle.intersecting.specs.Intersecting.{OrderedWindow};
 ghost use Rattle.fold.specs.Stretched.{BringAsked, AllBringable, stretchedTo, allStretched};
-ghost use Rattle.fold.specs.Folded.{sameHeads, foldOne, LeftReady, LeftIs, Folded};
+ghost use Rattle.fold.specs.Folded.{sameHeads, foldOne, LeftReady, LeftIs, Folded, CarryAsked, TableCarried, Carried};
 use super::agreeing::Shape;
 use super::stretching::bring;
 use parts::DENSE;
 use parts::EXTENTS;
+use parts::INPUTS;
 use parts::LEFT;
-use parts::PART;
 use parts::RANK;
 use parts::RIGHT;
 use parts::ROWS;
+use parts::STATES;
 use parts::TARGET;
 use rules::Mode;
 use rules::Refusal;
@@ -100,6 +101,28 @@ fn is_barred(first: bool, rule: Rule, window: &[i32]) -> bool
     false
 }
 
+// The table at a place of the target goes to that place of the left part: its count and its rows, without the room behind them.
+fn carry_table(window: &mut [i32], at: usize, w: usize)
+    requires { ⌜ CarryAsked at w (now window) ⌝ }
+    ensures { λ _. ⌜ TableCarried at w (now (window .entry)) (now (window .exit)) ⌝ }
+{
+    let size = 1 + cells::get(window, TARGET + at) * w;
+    cells::move_part(window, TARGET + at, LEFT + at, size);
+}
+
+// The layout in the target becomes the left one.
+fn carry_left(window: &mut [i32])
+    requires { ⌜ Holds target (now window) ⌝ }
+    ensures { λ _. ⌜ Carried (now (window .entry)) (now (window .exit)) ⌝ }
+{
+    let rank = cells::get(window, TARGET + RANK);
+    let w = rank - cells::get(window, TARGET + DENSE);
+    cells::move_part(window, TARGET, LEFT, ROWS);
+    carry_table(window, ROWS, w);
+    carry_table(window, STATES, rank + 1);
+    carry_table(window, INPUTS, rank + 1);
+}
+
 // One fold: both layouts are combined, and what comes out becomes the left one.
 fn fold_next(first: bool, rule: Rule, window: &mut [i32]) -> Step
     requires { ⌜ OrderedWindow (now window) ⌝ }
@@ -111,7 +134,7 @@ fn fold_next(first: bool, rule: Rule, window: &mut [i32]) -> Step
     if let Step::Refused(why) = combine_in(rule, window) {
         return Step::Refused(why);
     }
-    cells::move_part(window, TARGET, LEFT, PART);
+    carry_left(window);
     Step::Done
 }
 
