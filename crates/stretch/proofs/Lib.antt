@@ -7,6 +7,7 @@ pub mod Yields
 pub mod Clearing
 pub mod Depending
 pub mod Plus
+pub mod Turning
 pub mod Staying
 pub mod Combinations
 pub mod Within

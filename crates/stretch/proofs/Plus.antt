@@ -1,29 +1,26 @@
--- A row plus an index: `added` and `moved_row`. Assumes nothing.
+-- A row plus an index: `added`. Assumes nothing.
 use mathlib.Core.Path.{_≡_, refl, sym, ap, _∙_}
-use mathlib.Core.List.{List, [], _∷_, map}
+use mathlib.Core.List.{List, [], _∷_}
 use Prim.Native.Nat.{ℕ, zero, suc, _+_, _^_, _<_, _≤_}
 use native.Mathlib.Nat.{zero-add}
 use native.Mathlib.Omega.{arith}
 use lib.IntN.{ℤ, pos}
-use lib.ListN.{length, getD, set, length-set, length-map}
+use lib.ListN.{length, getD, set, length-set}
 use lib.Seq.{getD-set-same, getD-set-other, ext-getD}
 use Rattle.rules.specs.Lists.{product}
-use Rattle.rules.specs.Buffers.{put}
 use Rattle.rules.specs.Positions.{unravel}
 use Rattle.rules.specs.Removal.{positions}
-use Rattle.rules.proofs.Buffers.{part-put-all}
 use Rattle.rules.proofs.Order.{ComparedNumbers, under, even, above, compareNumbers}
 use Rattle.rules.proofs.Places.{in-at}
 use Rattle.rules.proofs.Indices.{positions-only, positions-length}
 use Rattle.rules.proofs.Low.{below-at}
 use Rattle.cells.specs.View.{view}
-use Rattle.cells.proofs.View.{view-length, view-set, view-part, view-pos}
+use Rattle.cells.proofs.View.{view-length, view-set}
 use Rattle.tables.specs.Rows.{rowAt}
 use Rattle.tables.proofs.Rows.{row-length, row-number}
-use Rattle.axes.specs.Extents.{IndexAsked}
-use Rattle.axes.proofs.Indices.{none-zero, unravel-length, unravel-position}
+use Rattle.axes.proofs.Indices.{unravel-length, unravel-position}
 use Rattle.stretch.specs.Spread.{plus}
-use Rattle.stretch.specs.Tables.{AddAsked, MoveAsked}
+use Rattle.stretch.specs.Tables.{AddAsked, MovesAsked}
 
 -- ---- sums of rows
 
@@ -101,7 +98,7 @@ module _ {at w : ℕ} {from index : List ℤ} where
 
 pub ruleset adding = (add-start, sum-small, add-turn, add-done)
 
--- ---- the index of a number: `moved_row`
+-- ---- a row plus the index of a number
 
 -- each of its components is below its extent
 pub unravel-under : (n : ℕ) (shape : List ℕ) → n < product shape → (k : ℕ) → k < length shape → getD (unravel n shape) k 0 < getD shape k 0
@@ -109,30 +106,20 @@ unravel-under n shape h k l =
     let only = positions-only shape (in-at (positions shape) n (rw positions-length h)) in
     rw (unravel-position n shape h) (below-at (getD (positions shape) n []) shape (only .1) k (omega (arith, only .0)) l)
 
-module _ {at w : ℕ} {from extents : List ℤ} {number : ℕ} (a : MoveAsked at w from extents number) where
+module _ {at w : ℕ} {from extents : List ℤ} {size to : ℕ} {s : List ℤ} (a : MovesAsked at w from extents size to s) {number : ℕ} (h : number < size) where
   abbrev shape : List ℕ
   shape = rowAt 0 w extents
 
-  pub ask-index : {row : List ℤ} → length row ≡ 5 → IndexAsked 0 w extents 0 row
-  ask-index l = record { extents = a .extents-are; nonzero = none-zero shape (omega (arith, a .inside)); room = omega (arith, a .narrow) }
+  pub number-inside : number < product (rowAt 0 w extents)
+  number-inside = rw (← a .size-is) h
 
   -- it has as many components as there are extents
-  pub index-length : length (unravel number shape) ≡ w
+  pub index-length : length (unravel number (rowAt 0 w extents)) ≡ w
   index-length = unravel-length number shape ∙ row-length 0 w extents (a .extents-are .room)
 
   -- each of them plus the number of the row is below 2 ^ 31
-  pub moved-under : (k : ℕ) → k < w → getD (rowAt at w from) k 0 + getD (unravel number shape) k 0 < 2 ^ 31
-  moved-under k h = omega (arith, a .sums-most k h, unravel-under number shape (a .inside) k (rw (row-length 0 w extents (a .extents-are .room)) h))
+  pub moved-under : (k : ℕ) → k < w → getD (rowAt at w from) k 0 + getD (unravel number (rowAt 0 w extents)) k 0 < 2 ^ 31
+  moved-under k l = omega (arith, a .sums-most k l, unravel-under number shape number-inside k (rw (row-length 0 w extents (a .extents-are .room)) l))
 
-  module _ (row : List ℤ) {index : List ℤ} (l : length row ≡ 5) (is : index ≡ put 0 (map pos (unravel number shape)) row) (long : length index ≡ 5) where
-    index-is : rowAt 0 w index ≡ unravel number shape
-    index-is =
-        let size : length (map pos (unravel number shape)) ≡ w = rw length-map index-length in
-        sym (view-part 0 w index) ∙ ap view (rw is (rw size at (part-put-all 0 (map pos (unravel number shape)) row (omega arith)))) ∙ view-pos (unravel number shape)
-
-    pub ask-add : AddAsked at w from index
-    ask-add = record { room = a .room; narrow = a .narrow; long = long; sums-low = rw index-is moved-under }
-
-    -- the sum is the row plus the index of the number
-    pub is-moved : (r : List ℤ) → rowAt 0 w r ≡ plus (rowAt at w from) (rowAt 0 w index) → rowAt 0 w r ≡ plus (rowAt at w from) (unravel number shape)
-    is-moved r e = rw index-is at e
+  pub ask-add : {index : List ℤ} → length index ≡ 5 → rowAt 0 w index ≡ unravel number (rowAt 0 w extents) → AddAsked at w from index
+  ask-add long is = record { room = a .room; narrow = a .narrow; long = long; sums-low = rw is moved-under }

@@ -1,14 +1,15 @@
 -- What is put into a table of the part.
 use mathlib.Core.Path.{_≡_}
+use mathlib.Core.Bool.{true}
 use mathlib.Core.List.{List, [], _∷_, List·Memᴰ}
 use Prim.Native.Nat.{ℕ, _+_, _*_, _^_, _≤_, _<_}
 use lib.IntN.{ℤ}
 use lib.ListN.{length, getD}
 use Rattle.rules.specs.declared.Mode.{Mode}
 use Rattle.rules.specs.Limits.{entryLimit, productLimit}
-use Rattle.rules.specs.Lists.{if, gather, below, product}
+use Rattle.rules.specs.Lists.{if, gather, below, product, allBelow}
 use Rattle.rules.specs.RowsInOrder.{Each}
-use Rattle.rules.specs.Positions.{unravel}
+use Rattle.rules.specs.Positions.{ravelIndex, unravel}
 use Rattle.rules.specs.Stretching.{isStretched, stretchedAxes, everyValue, fittedYields}
 use Rattle.tables.specs.Rows.{rowAt, rowsAt, HasRow, HasRows}
 use Rattle.tables.specs.Tables.{roomEnd, Ready}
@@ -67,13 +68,16 @@ pub record AddAsked (at w : ℕ) (from index : List ℤ) : Type 0 where
   pub long : length index ≡ 5
   pub sums-low : (k : ℕ) → k < w → getD (rowAt at w from) k 0 + getD (rowAt 0 w index) k 0 < 2 ^ 31
 
--- a row, and the number of an index over extents; their sums are at most 2 ^ 31
-pub record MoveAsked (at w : ℕ) (from extents : List ℤ) (number : ℕ) : Type 0 where
-  pub room : at + w ≤ length from
-  pub narrow : w ≤ 5
-  pub sums-most : (k : ℕ) → k < w → getD (rowAt at w from) k 0 + getD (rowAt 0 w extents) k 0 ≤ 2 ^ 31
+-- an index over extents, w of each
+pub record TurnAsked (w : ℕ) (extents index : List ℤ) : Type 0 where
+  pub room : w ≤ length index
   pub extents-are : Extents 0 w extents
-  pub inside : number < product (rowAt 0 w extents)
+  pub below : allBelow (rowAt 0 w index) (rowAt 0 w extents) ≡ true
+
+-- if it is not the last one, the next stands there
+pub record Turned (w : ℕ) (extents s t : List ℤ) : Type 0 where
+  pub next : ravelIndex (rowAt 0 w s) (rowAt 0 w extents) + 1 < product (rowAt 0 w extents) → ravelIndex (rowAt 0 w t) (rowAt 0 w extents) ≡ ravelIndex (rowAt 0 w s) (rowAt 0 w extents) + 1
+  pub below : ravelIndex (rowAt 0 w s) (rowAt 0 w extents) + 1 < product (rowAt 0 w extents) → allBelow (rowAt 0 w t) (rowAt 0 w extents) ≡ true
 
 -- a row, the number of all indices, and a table that can take such rows
 pub record MovesAsked (at w : ℕ) (from extents : List ℤ) (size to : ℕ) (s : List ℤ) : Type 0 where

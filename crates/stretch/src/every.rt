@@ -5,7 +5,7 @@ ghost use Rattle.rules.specs.Positions.{unravel};
 ghost use Rattle.tables.specs.Rows.{rowAt};
 ghost use Rattle.tables.specs.Tables.{Taken};
 ghost use Rattle.stretch.specs.Spread.{plus};
-ghost use Rattle.stretch.specs.Tables.{inTurn, AddAsked, MoveAsked, MovesAsked};
+ghost use Rattle.stretch.specs.Tables.{inTurn, AddAsked, TurnAsked, Turned, MovesAsked};
 
 // The row at a place plus an index, number by number.
 fn added(from: &[i32], at: usize, w: usize, index: [i32; 5]) -> [i32; 5]
@@ -20,14 +20,21 @@ fn added(from: &[i32], at: usize, w: usize, index: [i32; 5]) -> [i32; 5]
     row
 }
 
-// The row at a place plus the index of a number.
-fn moved_row(from: &[i32], at: usize, w: usize, extents: [i32; 5], number: usize) -> [i32; 5]
-    requires { ⌜ MoveAsked at w (now from) extents number ⌝ }
-    ensures { λ r. ⌜ rowAt 0 w r ≡ plus (rowAt at w (now (from .entry))) (unravel number (rowAt 0 w extents)) ⌝ }
+// An index becomes the next one: the last component that can grow does, and those behind it begin again at 0.
+fn turn(index: &mut [i32], extents: &[i32], w: usize)
+    requires { ⌜ TurnAsked w (now extents) (now index) ⌝ }
+    ensures { λ _. ⌜ Turned w (now (extents .entry)) (now (index .entry)) (now (index .exit)) ⌝ }
 {
-    let mut index = [0i32; 5];
-    axes::unravel_into(number, &extents, 0, w, &mut index, 0);
-    added(from, at, w, index)
+    let mut k = w;
+    while 0 < k {
+        k -= 1;
+        let number = cells::low(index, k) + 1;
+        if number < cells::low(extents, k) {
+            cells::store(index, k, number);
+            return;
+        }
+        cells::store(index, k, 0);
+    }
 }
 
 // The row at a place plus each index is put into the table; false where that makes too many rows.
@@ -43,12 +50,14 @@ pub fn put_moved(
     requires { ⌜ MovesAsked at w (now from) extents size to (now part) ⌝ }
     ensures { λ r. ⌜ Taken to w (inTurn (λ n. plus (rowAt at w (now (from .entry))) (unravel n (rowAt 0 w extents)) ∷ []) size) (now (part .entry)) (now (part .exit)) r ⌝ }
 {
+    let mut index = [0i32; 5];
     let mut number = 0;
     while number < size {
-        let row = moved_row(from, at, w, extents, number);
+        let row = added(from, at, w, index);
         if !tables::put_row(part, to, w, &row, 0) {
             return false;
         }
+        turn(&mut index, &extents, w);
         number += 1;
     }
     true
