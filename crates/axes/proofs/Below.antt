@@ -1,6 +1,6 @@
 -- `row_below` and `rows_below`: components against extents, one after the other. Assumes nothing.
 use mathlib.Core.Path.{_≡_, refl, sym, _∙_}
-use mathlib.Core.Bool.{Bool, true, false, not, _&&_}
+use mathlib.Core.Bool.{Bool, true, false, not, _&&_, and-true}
 use mathlib.Core.List.{List}
 use Prim.Native.Nat.{ℕ, _+_, _^_, _<_, _≤_}
 use native.Mathlib.Numerals.{add-one}
@@ -14,6 +14,7 @@ use Rattle.rules.specs.Lists.{allBelow}
 use Rattle.cells.specs.View.{view}
 use Rattle.tables.specs.Rows.{rowAt, HasRow}
 use Rattle.tables.proofs.Rows.{row-length, row-number, row-low}
+use Rattle.axes.proofs.Pairs.{pair-row, pair-first, pair-second}
 
 -- the first k of w components at a of s are below their extents at a place of t
 pub record Under (a at w k : ℕ) (s t : List ℤ) : Type 0 where
@@ -57,5 +58,23 @@ module _ {a at w k : ℕ} {s t : List ℤ} (u : Under a at w k s t) where
   pub done : w ≤ k → true ≡ allBelow (rowAt a w s) (rowAt at w t)
   unfolding allBelow
   done h = let p = row-length a w s (u .row .room) in sym (u .eq ∙ rw (drop-of-length-le (rowAt a w s) {i = k} (omega arith)))
+
+-- ---- two components
+
+module _ {a w : ℕ} {s : List ℤ} (at : ℕ) (t : List ℤ) (r : HasRow a w s) (h : at + w ≤ length t) (two : w ≡ 2) {u : Bool} (e : u ≡ ltb (getD (view s) a 0) (getD (view t) at 0)) where
+  -- the first decides, and then the second
+  both : allBelow (rowAt a w s) (rowAt at w t) ≡ u && ltb (getD (view s) (a + 1) 0) (getD (view t) (at + 1) 0)
+  unfolding allBelow
+  both = rw (pair-row a s two (r .room), pair-row at t two h, e, and-true)
+
+  -- the first is below its extent
+  pub by-second : {v : Bool} → u ≡ true → v ≡ ltb (getD (view s) (a + 1) 0) (getD (view t) (at + 1) 0) → v ≡ allBelow (rowAt a w s) (rowAt at w t)
+  by-second f g = g ∙ sym (both ∙ rw f)
+
+  -- it is not
+  pub first-above : u ≡ false → false ≡ allBelow (rowAt a w s) (rowAt at w t)
+  first-above f = sym (both ∙ rw f)
+
+pub ruleset pairs = (pair-first, pair-second, by-second, first-above)
 
 pub ruleset laws = (start, low-component, turn, stop, done)

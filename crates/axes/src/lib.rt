@@ -43,12 +43,19 @@ pub fn product(s: &[i32], at: usize, rank: usize) -> usize
     product
 }
 
-// Whether each of the w components at a of s is below the extent of its axis; the first extent stands at a place of t.
+// Whether each of the w components at a of s is below the extent of its axis; the first extent stands at a place of t. Two are compared without a
+// loop.
 pub fn row_below(s: &[i32], a: usize, t: &[i32], at: usize, w: usize) -> bool
     requires { ⌜ HasRow a w (now s) ⌝ }
     requires { ⌜ at + w ≤ length (now t) ⌝ }
     ensures { λ r. ⌜ r ≡ allBelow (rowAt a w (now (s .entry))) (rowAt at w (now (t .entry))) ⌝ }
 {
+    if w == 2 {
+        if cells::below(s, a, t, at) {
+            return cells::below(s, a + 1, t, at + 1);
+        }
+        return false;
+    }
     for k in 0..w {
         if !cells::below(s, a + k, t, at + k) {
             return false;

@@ -1,6 +1,6 @@
 -- `all_natural`, `small_numbers` and `alike`: the numbers of a part put to a test. Assumes nothing.
 use mathlib.Core.Path.{_≡_, refl, sym, ap, _∙_}
-use mathlib.Core.Bool.{Bool, true, false, not}
+use mathlib.Core.Bool.{Bool, true, false, not, _&&_, and-true}
 use mathlib.Core.List.{List}
 use mathlib.Core.Logic.{_⊎_, inl, inr, ⊎-elim}
 use Prim.Native.Nat.{ℕ, zero, suc, _+_, _^_, _<_, _≤_}
@@ -25,6 +25,7 @@ use Rattle.cells.proofs.View.{view-getD}
 use Rattle.cells.proofs.Signed.{held, back, natural-code}
 use Rattle.tables.specs.Rows.{HasRow}
 use Rattle.tables.proofs.Rows.{row-length, row-number, row-low}
+use Rattle.axes.proofs.Pairs.{pair-row, pair-first, pair-second}
 use Rattle.records.specs.Judging.{small}
 use Rattle.records.proofs.Sections.{sign-natural, sign-negative}
 use Rattle.records.proofs.Naturals.{low-front}
@@ -167,6 +168,23 @@ module _ (a n : ℕ) (s : List ℤ) {k x : ℕ} (p : Passed small n k (part a n 
   -- the next number is not
   pub small-fails : 65535 < x → false ≡ all small (part a n (view s))
   small-fails l = part-fails a n s p h e (lt-leb x 65535 l)
+
+-- two numbers, without a loop
+module _ {a n : ℕ} {s : List ℤ} (r : HasRow a n s) (two : n ≡ 2) {x : ℕ} (e : x ≡ getD (view s) a 0) where
+  -- the first decides, and then the second
+  both-small : all small (part a n (view s)) ≡ small x && small (getD (view s) (a + 1) 0)
+  unfolding all
+  both-small = rw (pair-row a s two (r .room), e, and-true)
+
+  -- the first is not small
+  pub first-large : 65535 < x → false ≡ all small (part a n (view s))
+  first-large l = sym (both-small ∙ rw (lt-leb x 65535 l))
+
+  -- it is
+  pub second-tells : {y : ℕ} → x ≤ 65535 → y ≡ getD (view s) (a + 1) 0 → small y ≡ all small (part a n (view s))
+  second-tells l f = sym (both-small ∙ rw (le-leb x 65535 l, f))
+
+pub ruleset two-small = (pair-first, pair-second, first-large, second-tells)
 
 pub ruleset smalls = (small-start, row-low, small-more, small-fails, all-passed)
 

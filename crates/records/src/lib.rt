@@ -142,11 +142,17 @@ pub fn alike(s: &[i32], a: usize, n: usize) -> bool
     true
 }
 
-// Whether each of the n numbers from a on is at most 65,535.
+// Whether each of the n numbers from a on is at most 65,535. Two are tested without a loop.
 fn small_numbers(s: &[i32], a: usize, n: usize) -> bool
     requires { ⌜ HasRow a n (now s) ⌝ }
     ensures { λ r. ⌜ r ≡ all small (part a n (view (now (s .entry)))) ⌝ }
 {
+    if n == 2 {
+        if rules::COMPONENT_LIMIT < cells::low(s, a) {
+            return false;
+        }
+        return cells::low(s, a + 1) <= rules::COMPONENT_LIMIT;
+    }
     for k in 0..n {
         if rules::COMPONENT_LIMIT < cells::low(s, a + k) {
             return false;
