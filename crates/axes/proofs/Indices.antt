@@ -37,7 +37,7 @@ extent-pos (suc x ∷ l) zero e h = omega arith
 extent-pos (suc x ∷ l) (suc k) e h = extent-pos l k (rw (ne-eqb 0 (suc x) (λ (z : 0 ≡ suc x). omega arith)) at e) (omega arith)
 
 -- no factor of a product that is not zero is
-factors : (e p : ℕ) → 0 < e * p → (0 < e) × (0 < p)
+pub factors : (e p : ℕ) → 0 < e * p → (0 < e) × (0 < p)
 factors zero p h = absurd (omega (arith, zero-mul p))
 factors (suc e) zero h = absurd (omega (arith, mul-zero (suc e)))
 factors (suc e) (suc p) h = (omega arith, omega arith)

@@ -1,2 +1,3 @@
 -- What the contracts of axes cite.
 pub mod Extents
+pub mod Numbers

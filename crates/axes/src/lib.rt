@@ -7,10 +7,11 @@ ghost use lib.IntN.{pos};
 ghost use lib.ListN.{length};
 ghost use Rattle.rules.specs.Lists.{all, allBelow, product};
 ghost use Rattle.rules.specs.Buffers.{put};
-ghost use Rattle.rules.specs.Layout.{withinProduct};
-ghost use Rattle.rules.specs.Positions.{unravel};
+ghost use Rattle.rules.specs.Layout.{withinProduct, distinct};
+ghost use Rattle.rules.specs.Positions.{ravelIndex, unravel};
 ghost use Rattle.tables.specs.Rows.{rowAt, rowsAt, HasRow, HasRows};
 ghost use Rattle.axes.specs.Extents.{Extents, IndexAsked};
+ghost use Rattle.axes.specs.Numbers.{RowInside, RowsInside, rowNumbers, DifferIn};
 
 // Whether the product of those extents that are not zero is at most 65,536.
 pub fn within_product(s: &[i32], at: usize, rank: usize) -> bool
@@ -76,6 +77,83 @@ pub fn rows_below(s: &[i32], a: usize, n: usize, t: &[i32], at: usize, w: usize)
         }
     }
     true
+}
+
+// The row-major number of the row of w numbers at a of s, by the extents at a place of t. Two are put together without a loop.
+fn number_of(s: &[i32], a: usize, t: &[i32], at: usize, w: usize) -> usize
+    requires { ⌜ RowInside a at w (now s) (now t) ⌝ }
+    ensures { λ r. ⌜ r ≡ ravelIndex (rowAt a w (now (s .entry))) (rowAt at w (now (t .entry))) ⌝ }
+{
+    if w == 2 {
+        return cells::low(s, a) * cells::low(t, at + 1) + cells::low(s, a + 1);
+    }
+    let mut number = 0;
+    for k in 0..w {
+        number = number * cells::low(t, at + k) + cells::low(s, a + k);
+    }
+    number
+}
+
+// Whether no two of the n rows from a of s on have one of the 4,096 numbers from a number on: each is marked where it comes first.
+fn differ_in_window(
+    s: &[i32],
+    a: usize,
+    n: usize,
+    t: &[i32],
+    at: usize,
+    w: usize,
+    from: usize,
+) -> bool
+    requires { ⌜ RowsInside a at w n (now s) (now t) ⌝ }
+    ensures { λ r. ⌜ DifferIn from (from + 4096) (rowNumbers a at w n (now (s .entry)) (now (t .entry))) r ⌝ }
+{
+    let mut marks = [false; 4096];
+    for i in 0..n {
+        let number = number_of(s, a + i * w, t, at, w);
+        if number < from {
+            continue;
+        }
+        let mark = number - from;
+        if 4096 <= mark {
+            continue;
+        }
+        if marks[mark] {
+            return false;
+        }
+        marks[mark] = true;
+    }
+    true
+}
+
+// Whether no two of the rows are the same, by their numbers: one walk through them for each window below the product of the extents.
+fn differ_by_numbers(s: &[i32], a: usize, n: usize, t: &[i32], at: usize, w: usize) -> bool
+    requires { ⌜ RowsInside a at w n (now s) (now t) ⌝ }
+    ensures { λ r. ⌜ r ≡ distinct (rowsAt a w n (now (s .entry))) ⌝ }
+{
+    let size = product(t, at, w);
+    let mut from = 0;
+    while from < size {
+        if !differ_in_window(s, a, n, t, at, w, from) {
+            return false;
+        }
+        from += 4096;
+    }
+    true
+}
+
+// Whether no two of the n rows from a of s on are the same, which are below the extents at a place of t. Rows that increase are told by one walk, up
+// to 16 others pair by pair, more by their numbers.
+pub fn all_differ(s: &[i32], a: usize, n: usize, t: &[i32], at: usize, w: usize) -> bool
+    requires { ⌜ RowsInside a at w n (now s) (now t) ⌝ }
+    ensures { λ r. ⌜ r ≡ distinct (rowsAt a w n (now (s .entry))) ⌝ }
+{
+    if tables::is_increasing(s, a, n, w) {
+        return true;
+    }
+    if n <= 16 {
+        return tables::distinct(s, a, n, w);
+    }
+    differ_by_numbers(s, a, n, t, at, w)
 }
 
 // The index of a number goes into a slice from a place on: the last axis first, each by its remainder.

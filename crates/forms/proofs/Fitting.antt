@@ -34,15 +34,23 @@ use Rattle.cells.specs.View.{view, Low}
 use Rattle.tables.specs.Rows.{rowAt, rowsAt, HasRows}
 use Rattle.tables.proofs.Different.{twice-length}
 use Rattle.records.proofs.Naturals.{has-rows, entries-rows}
+use Rattle.axes.specs.Numbers.{RowsInside}
 use Rattle.shapes.specs.Judged.{Judged}
-use Rattle.shapes.proofs.Judging.{shape-row, shape-within}
-use Rattle.shapes.proofs.Reading.{length-naturals}
+use Rattle.shapes.proofs.Judging.{shape-row, shape-extents, shape-within}
+use Rattle.shapes.proofs.Reading.{length-naturals, view-natural}
 use Rattle.forms.specs.Pieces.{pieces, PiecesFit, noDeps, sparseOf}
-use Rattle.forms.specs.Windows.{RowsInside}
 use Rattle.forms.proofs.Packed.{flat}
 use Rattle.forms.proofs.Pieces.{encode-pieces, ends-same}
 use Rattle.forms.proofs.Making.{extents, lent-extents, ends-refused}
-use Rattle.forms.proofs.Listing.{below, rows-natural}
+
+-- rows without a negative number are what they are as naturals
+rows-natural : (w n : ℕ) (s : List ℤ) → all nonNeg s ≡ true → rowsAt 0 w n s ≡ rowsOf w n (naturals s)
+unfolding rowsAt
+rows-natural w n s e = ap (rowsOf w n) (view-natural s e)
+
+-- a row is inside a shape
+abbrev below : List ℤ → List ℕ → Bool
+below shape row = allBelow row (shapeIn shape)
 
 -- ---- without axes
 
@@ -85,11 +93,7 @@ module _ (s : List ℤ) {w : ℕ} (n : ℕ) (numbers : List ℤ) (size : length 
       by zero y = absurd (y refl)
       by (suc k) y = refl
 
-  -- they are all there
-  pub rows-long : n * w ≤ length numbers
-  rows-long = rw (size, e) (omega arith)
-
-  -- and are rows, if none is negative
+  -- they are rows of the slice, if none is negative
   pub rows-there : {t : Bool} → (t ≡ true → Low (take (length numbers) (view numbers))) → not t ≡ false → HasRows 0 w n numbers
   rows-there {t} low g = has-rows 0 w n (length numbers) numbers (rw e (omega arith)) (omega arith) (low (not-false t g))
 
@@ -121,8 +125,8 @@ module _ (s : List ℤ) {w : ℕ} (n : ℕ) (numbers : List ℤ) (size : length 
 
       module _ (k : not u ≡ false) where
         -- all are inside
-        pub rows-within : RowsInside s w n numbers
-        rows-within = record { judged = j; wide = e; room = rows-long; natural = sym natural-told ∙ not-false t g; inside = sym told-below ∙ not-false u k }
+        pub rows-within : HasRows 0 w n numbers → RowsInside 0 1 w n numbers s
+        rows-within r = record { rows = r; extents = shape-extents s j e; inside = sym d ∙ not-false u k }
 
         -- what the layout asks of them besides
         formed : distinct (rowsOf w n (naturals numbers)) ≡ true → WellFormed (sparseOf (shapeIn s) n numbers)
@@ -150,13 +154,13 @@ module _ (s : List ℤ) {w : ℕ} (n : ℕ) (numbers : List ℤ) (size : length 
         pub rows-decide : {v : Bool} → v ≡ distinct (rowsAt 0 w n numbers) → v ≡ all nonNeg numbers && wellFormed (sparseOf (shapeIn s) n numbers)
         rows-decide {v} q =
             let rows = entries-are z (naturals numbers) in
-            let told : v ≡ distinct (rowsOf w n (naturals numbers)) = q ∙ ap distinct (rows-natural w n numbers (rows-within .natural)) in
+            let told : v ≡ distinct (rowsOf w n (naturals numbers)) = q ∙ ap distinct (rows-natural w n numbers (sym natural-told ∙ not-false t g)) in
             rw (← natural-told, not-false t g)
             (decided v (wellFormed (sparseOf (shapeIn s) n numbers))
             (λ y. true-well-formed (formed (sym told ∙ y)))
             (λ y. told ∙ eq-eqb _ _ (rw rows at (well-formed-true y .rows-distinct))))
 
-pub ruleset fits = (rows-without-axes, rows-long, rows-negative, rows-outside, rows-within, rows-decide)
+pub ruleset fits = (rows-without-axes, rows-negative, rows-outside, rows-within, rows-decide)
 
 -- ---- the record: `sparse`
 

@@ -3,7 +3,4 @@ pub mod Matching
 pub mod Pieces
 pub mod Making
 pub mod Unpacking
-pub mod Listing
-pub mod Marking
-pub mod Numbering
 pub mod Fitting

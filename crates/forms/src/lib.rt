@@ -1,7 +1,6 @@
 // Forms: whether two sound records are the same, and records that are made of a shape or of another record.
 mod equality; // equality.rt: whether two records are the same
 mod writing; // writing.rt: a record written from its pieces
-mod windows; // windows.rt: many rows, told apart by their numbers
 mod rows; // rows.rt: rows that become a sparse record
 
 pub use equality::eq_nonzeros;

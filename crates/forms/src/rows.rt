@@ -6,34 +6,16 @@ ghost use lib.ListN.{length};
 ghost use lib.Signed.{nonNeg};
 ghost use Rattle.rules.specs.Lists.{all};
 ghost use Rattle.rules.specs.Limits.{resultSize};
-ghost use Rattle.rules.specs.Layout.{encode, distinct, wellFormed};
+ghost use Rattle.rules.specs.Layout.{encode, wellFormed};
 ghost use Rattle.rules.specs.Record.{shapeIn};
 ghost use Rattle.rules.specs.Refusals.{inForm};
 ghost use Rattle.rules.specs.Endings.{EndsIn};
 ghost use Rattle.rules.specs.CountsAndForms.{sparse};
-ghost use Rattle.tables.specs.Rows.{rowsAt, HasRows};
 ghost use Rattle.shapes.specs.Judged.{Judged};
 ghost use Rattle.forms.specs.Pieces.{sparseOf};
-ghost use Rattle.forms.specs.Windows.{RowsInside};
-use super::windows::differ_in_windows;
 use super::writing::write_record;
 use rules::Refusal;
 use rules::Written;
-
-// Whether no two of n rows inside a shape are the same. Many rows that are not in order are told apart by their numbers.
-fn rows_differ(shape: &[i32], w: usize, n: usize, numbers: &[i32]) -> bool
-    requires { ⌜ RowsInside (now shape) w n (now numbers) ⌝ }
-    requires { ⌜ HasRows 0 w n (now numbers) ⌝ }
-    ensures { λ r. ⌜ r ≡ distinct (rowsAt 0 w n (now (numbers .entry))) ⌝ }
-{
-    if n <= rules::ENTRY_LIMIT {
-        return tables::all_differ(numbers, 0, n, w);
-    }
-    if tables::is_increasing(numbers, 0, n, w) {
-        return true;
-    }
-    differ_in_windows(shape, w, n, numbers)
-}
 
 // Whether the numbers are n rows of a sparse layout: natural, inside the shape and all different. Without axes all rows are the same.
 fn rows_fit(shape: &[i32], n: usize, numbers: &[i32]) -> bool
@@ -51,7 +33,7 @@ fn rows_fit(shape: &[i32], n: usize, numbers: &[i32]) -> bool
     if !axes::rows_below(numbers, 0, n, shape, 1, w) {
         return false;
     }
-    rows_differ(shape, w, n, numbers)
+    axes::all_differ(numbers, 0, n, shape, 1, w)
 }
 
 // The sparse record of a shape and n rows is written, if they fit and are not too many.

@@ -1,6 +1,6 @@
 -- `sound_by` and `row`: what is answered about a record. Assumes nothing.
 use mathlib.Core.Path.{_≡_, refl, sym, ap, _∙_}
-use mathlib.Core.Bool.{Bool, true, false, not, and-false}
+use mathlib.Core.Bool.{Bool, true, false, not, and-true, and-false}
 use mathlib.Core.List.{List, [], map}
 use Prim.Native.Nat.{ℕ, zero, suc, min, _+_, _*_, _-_, _^_, _<_, _≤_}
 use native.Mathlib.Omega.{arith}
@@ -98,18 +98,18 @@ module _ (h : Head) (s : List ℤ) {t : Bool} (e : t ≡ all nonNeg (take (h .in
   pub is-negative : not t ≡ true → false ≡ soundFrom (To h) s
   is-negative f = first-fails (soundLayout (layoutBy h s)) e f
 
-  module _ (f : not t ≡ false) {u : Bool} (d : u ≡ wellFormed (layoutBy h s)) where
-    -- it breaks a rule other than size
-    pub is-deformed : not u ≡ true → false ≡ soundFrom (To h) s
+  module _ (f : not t ≡ false) {u : Bool} (d : u ≡ withinSizes (layoutBy h s)) where
+    -- it breaks a limit of size
+    pub is-large : not u ≡ true → false ≡ soundFrom (To h) s
     unfolding soundLayout
-    is-deformed k = first-fails (withinSizes (layoutBy h s)) d k ∙ sym (first-holds e f)
+    is-large k = sym (first-holds e f ∙ rw (← d, not-true u k) (and-false (wellFormed (layoutBy h s))))
 
-    -- it breaks no such rule
-    pub by-size : {v : Bool} → not u ≡ false → v ≡ withinSizes (layoutBy h s) → v ≡ soundFrom (To h) s
+    -- it keeps them, so the other rules decide
+    pub by-form : {v : Bool} → not u ≡ false → v ≡ wellFormed (layoutBy h s) → v ≡ soundFrom (To h) s
     unfolding soundLayout
-    by-size k q = q ∙ sym (first-holds e f ∙ first-holds d k)
+    by-form k q = q ∙ sym (first-holds e f ∙ rw (← d, not-false u k) (and-true (wellFormed (layoutBy h s))))
 
-pub ruleset judged = (too-many, is-readable, is-negative, is-deformed, by-size)
+pub ruleset judged = (too-many, is-readable, is-negative, is-large, by-form)
 
 -- ---- a row of it: `row_of` and `row`
 

@@ -1,9 +1,10 @@
 -- `rows_fit` and `small_deps`: the rows of a section put to a test. Assumes nothing.
 use mathlib.Core.Path.{_≡_, sym, _∙_}
-use mathlib.Core.Bool.{Bool, true, false, not}
+use mathlib.Core.Bool.{Bool, true, false, not, and-true, and-false}
 use mathlib.Core.List.{List}
 use Prim.Native.Nat.{ℕ, _+_, _*_, _<_, _≤_}
 use native.Mathlib.Omega.{arith}
+use borrow.Author.Tests.{not-true, not-false}
 use lib.IntN.{ℤ}
 use lib.Seq.{take-take}
 use Rattle.rules.specs.declared.Entries.{Entries}
@@ -11,10 +12,11 @@ use Rattle.rules.specs.Lists.{all}
 use Rattle.rules.specs.Buffers.{part}
 use Rattle.rules.specs.Layout.{distinct}
 use Rattle.cells.specs.View.{view}
-use Rattle.tables.specs.Rows.{rowAt, rowsAt}
+use Rattle.tables.specs.Rows.{rowAt, rowsAt, HasRows}
 use Rattle.tables.proofs.Passing.{Passed, all-passed, rows-start, rows-more, rows-fail}
+use Rattle.axes.specs.Extents.{Extents}
+use Rattle.axes.specs.Numbers.{RowsInside}
 use Rattle.records.specs.Judging.{rowsBelow, rowsFit, small, smallDep, smallDeps}
-use Rattle.records.proofs.InTurn.{first-fails, first-holds}
 
 -- ---- small components of dependencies
 
@@ -41,17 +43,22 @@ module _ (a rank n : ℕ) (s : List ℤ) {i : ℕ} (p : Passed (smallDep rank) n
 
 pub ruleset smalls = (rows-start, deps-more, deps-fail, all-small)
 
--- ---- all rows different, and below the extents
+-- ---- all rows below the extents, and different
 
-module _ (e : Entries) (w : ℕ) (s : List ℤ) {t : Bool} (p : t ≡ distinct (rowsAt (e .first) w (e .count) s)) where
-  -- two rows are the same
-  pub row-twice : not t ≡ true → false ≡ rowsFit e w s
+module _ (e : Entries) (w : ℕ) (s : List ℤ) {t : Bool} (p : t ≡ rowsBelow (e .first) w (e .count) s) where
+  -- a row is outside
+  pub row-outside : not t ≡ true → false ≡ rowsFit e w s
   unfolding rowsFit
-  row-twice f = first-fails _ p f
+  row-outside f = sym (rw (← p, not-true t f) (and-false (distinct (rowsAt (e .first) w (e .count) s))))
 
-  -- all rows differ
-  pub rows-right : {u : Bool} → not t ≡ false → u ≡ rowsBelow (e .first) w (e .count) s → u ≡ rowsFit e w s
-  unfolding rowsFit
-  rows-right f q = q ∙ sym (first-holds p f)
+  module _ (f : not t ≡ false) where
+    -- all rows are inside
+    pub rows-inside : HasRows (e .first) w (e .count) s → Extents 3 w s → RowsInside (e .first) 3 w (e .count) s s
+    rows-inside r x = record { rows = r; extents = x; inside = sym p ∙ not-false t f }
 
-pub ruleset fits = (row-twice, rows-right)
+    -- whether they differ decides
+    pub rows-right : {u : Bool} → u ≡ distinct (rowsAt (e .first) w (e .count) s) → u ≡ rowsFit e w s
+    unfolding rowsFit
+    rows-right q = q ∙ sym (rw (← p, not-false t f) (and-true (distinct (rowsAt (e .first) w (e .count) s))))
+
+pub ruleset fits = (row-outside, rows-inside, rows-right)

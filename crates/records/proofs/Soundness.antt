@@ -3,16 +3,23 @@ use mathlib.Core.Path.{_≡_, sym, _∙_}
 use mathlib.Core.Bool.{Bool, true, false, not, _&&_, and-assoc, and-true}
 use mathlib.Core.List.{List}
 use Prim.Native.Nat.{_+_, _*_, _≤_}
+use native.Mathlib.Nat.{le-trans}
 use native.Mathlib.Omega.{arith}
+use borrow.Author.Tests.{le-leb, leb-true}
 use lib.IntN.{ℤ}
 use lib.ListN.{length}
 use Rattle.rules.specs.declared.Head.{Head}
+use Rattle.rules.specs.Limits.{productLimit}
 use Rattle.rules.specs.Buffers.{part}
 use Rattle.rules.specs.RowsInOrder.{increasing}
-use Rattle.rules.specs.Layout.{withinProduct, wellFormed, withinSizes}
+use Rattle.rules.specs.Layout.{nonzeroProduct, withinProduct, wellFormed, withinSizes}
 use Rattle.rules.specs.Record.{layoutBy}
+use Rattle.rules.proofs.Extents.{nonzero-take}
+use Rattle.rules.proofs.Same.{both-true}
 use Rattle.cells.specs.View.{view}
-use Rattle.tables.specs.Rows.{rowsAt}
+use Rattle.tables.specs.Rows.{rowAt, rowsAt}
+use Rattle.tables.proofs.Rows.{front-row}
+use Rattle.axes.specs.Extents.{Extents}
 use Rattle.records.specs.Judging.{Readable, kindFits, axesFit, rowsFit, smallDeps}
 use Rattle.records.proofs.InTurn.{first-fails, first-holds}
 use Rattle.records.proofs.Layouts.{layout-seen, bounds}
@@ -62,6 +69,18 @@ module _ {h : Head} {s : List ℤ} (p : Readable h s) where
       )
       (simp (and-true, and-assoc))
 
+  -- the extents of the first axes, where they are kept
+  pub row-extents : withinSizes (layoutBy h s) ≡ true → Extents 3 (h .width) s
+  unfolding withinProduct
+  row-extents e =
+      let b = bounds p in
+      let most = leb-true (nonzeroProduct (rowAt 3 (h .rank) s)) productLimit (both-true _ _ (sym sized ∙ e) .0) in
+      let front = front-row 3 (h .width) (h .rank) s (b .narrow) in
+      record {
+        room = omega arith;
+        within = rw front (le-leb _ _ (le-trans (nonzero-take (h .width) (rowAt 3 (h .rank) s)) most));
+      }
+
 -- ---- one test after the other: `well_formed`
 
 module _ {h : Head} {s : List ℤ} (p : Readable h s) {t₁ : Bool} (e₁ : t₁ ≡ kindFits (h .rows .count) s) where
@@ -93,7 +112,7 @@ module _ {h : Head} {s : List ℤ} (p : Readable h s) {t₁ : Bool} (e₁ : t₁
         pub well-formed : {t₅ : Bool} → not t₄ ≡ false → t₅ ≡ increasing (rowsAt (h .inputs .first) (h .rank + 1) (h .inputs .count) s) → t₅ ≡ wellFormed (layoutBy h s)
         well-formed f₄ e₅ = e₅ ∙ sym (rest₃ ∙ first-holds e₃ f₃ ∙ first-holds e₄ f₄)
 
-pub ruleset forms = (kind-wrong, rows-wrong, axes-wrong, states-wrong, well-formed)
+pub ruleset forms = (row-extents, kind-wrong, rows-wrong, axes-wrong, states-wrong, well-formed)
 
 -- ---- one test after the other: `within_sizes`
 

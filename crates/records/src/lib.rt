@@ -15,6 +15,7 @@ ghost use Rattle.rules.specs.declared.Walk.the-variants.{To};
 ghost use Rattle.rules.specs.Arguments.{overRecord};
 ghost use Rattle.cells.specs.View.{view, Low};
 ghost use Rattle.tables.specs.Rows.{HasRow, HasRows};
+ghost use Rattle.axes.specs.Extents.{Extents};
 ghost use Rattle.records.specs.Slices.{BeginsAt};
 ghost use Rattle.records.specs.Sections.{SectionIn};
 ghost use Rattle.records.specs.Heads.{HeadOf};
@@ -226,39 +227,16 @@ fn axes_fit(s: &[i32], width: usize) -> bool
     true
 }
 
-// Whether the rows differ from each other and their components are below the extents.
+// Whether the components of the rows are below the extents and the rows differ from each other.
 fn rows_fit(s: &[i32], rows: Entries, width: usize) -> bool
     requires { ⌜ HasRows (rows .first) width (rows .count) (now s) ⌝ }
-    requires { ⌜ 3 + width ≤ length (now s) ⌝ }
+    requires { ⌜ Extents 3 width (now s) ⌝ }
     ensures { λ r. ⌜ r ≡ rowsFit rows width (now (s .entry)) ⌝ }
 {
-    if !tables::all_differ(s, rows.first, rows.count, width) {
+    if !axes::rows_below(s, rows.first, rows.count, s, EXTENTS, width) {
         return false;
     }
-    axes::rows_below(s, rows.first, rows.count, s, EXTENTS, width)
-}
-
-// Whether a readable record obeys the rules of soundness other than size.
-fn well_formed(s: &[i32], h: Head) -> bool
-    requires { ⌜ Readable h (now s) ⌝ }
-    ensures { λ r. ⌜ r ≡ wellFormed (layoutBy h (now (s .entry))) ⌝ }
-{
-    let rows = h.rows;
-    let states = h.states;
-    let inputs = h.inputs;
-    if !kind_fits(s, rows.count) {
-        return false;
-    }
-    if !rows_fit(s, rows, h.width) {
-        return false;
-    }
-    if !axes_fit(s, h.width) {
-        return false;
-    }
-    if !tables::is_increasing(s, states.first, states.count, h.rank + 1) {
-        return false;
-    }
-    tables::is_increasing(s, inputs.first, inputs.count, h.rank + 1)
+    axes::all_differ(s, rows.first, rows.count, s, EXTENTS, width)
 }
 
 // Whether a readable record keeps the limits of size.
@@ -277,6 +255,31 @@ fn within_sizes(s: &[i32], h: Head) -> bool
     small_deps(s, inputs.first, inputs.count, h.rank)
 }
 
+// Whether a readable record that keeps the limits of size obeys the other rules of soundness.
+fn well_formed(s: &[i32], h: Head) -> bool
+    requires { ⌜ Readable h (now s) ⌝ }
+    requires { ⌜ withinSizes (layoutBy h (now s)) ≡ true ⌝ }
+    ensures { λ r. ⌜ r ≡ wellFormed (layoutBy h (now (s .entry))) ⌝ }
+{
+    let rows = h.rows;
+    let states = h.states;
+    let inputs = h.inputs;
+    let wide = h.rank + 1;
+    if !kind_fits(s, rows.count) {
+        return false;
+    }
+    if !rows_fit(s, rows, h.width) {
+        return false;
+    }
+    if !axes_fit(s, h.width) {
+        return false;
+    }
+    if !tables::is_increasing(s, states.first, states.count, wide) {
+        return false;
+    }
+    tables::is_increasing(s, inputs.first, inputs.count, wide)
+}
+
 // Whether a walked record is sound; if so, it is readable. The counts are tested first, so that no later test takes long.
 fn sound_by(s: &[i32], h: Head) -> bool
     requires { ⌜ HeadOf h (now s) ⌝ }
@@ -290,10 +293,10 @@ fn sound_by(s: &[i32], h: Head) -> bool
     if !all_natural(s, inputs.next) {
         return false;
     }
-    if !well_formed(s, h) {
+    if !within_sizes(s, h) {
         return false;
     }
-    within_sizes(s, h)
+    well_formed(s, h)
 }
 
 // The head of the record at the front of a slice, if the record is sound; it is readable then.

@@ -3,14 +3,13 @@ use mathlib.Core.Path.{_≡_, sym, _∙_}
 use mathlib.Core.Bool.{true, false}
 use mathlib.Core.List.{List, [], _∷_, map}
 use Prim.Native.Nat.{ℕ, suc, _+_, _*_, _^_, _<_, _≤_}
-use native.Mathlib.Nat.{zero-mul, zero-add, add-zero, add-mul, add-assoc, mul-one, mul-assoc, pow-suc, suc-mul, mul-le-mul-left, mul-le-mul-right, pow-le-pow-right, lt-of-lt-of-le}
+use native.Mathlib.Nat.{zero-mul, zero-add, add-zero, mul-one, pow-suc, suc-mul, mul-le-mul-left, mul-le-mul-right, pow-le-pow-right, lt-of-lt-of-le}
 use native.Mathlib.Numerals.{add-one}
 use native.Mathlib.Omega.{arith}
 use borrow.Author.Tests.{eqb-true}
 use lib.Dec.{eqb, lit<}
 use lib.IntN.{ℤ, pos}
 use lib.ListN.{length, getD, drop, length-map, drop-of-length-le}
-use lib.Seq.{drop-cons}
 use mir.Syntax.{w64}
 use mir.Val.{Fits}
 use Rattle.rules.specs.Limits.{rankLimit}
@@ -26,6 +25,7 @@ use Rattle.cells.proofs.View.{view-put, view-pos, view-zeros}
 use Rattle.tables.specs.Rows.{rowAt}
 use Rattle.axes.specs.Extents.{IndexAsked}
 use Rattle.axes.proofs.Indices.{unravel-length}
+use Rattle.axes.proofs.Numbering.{ravel-next}
 use Rattle.shapes.specs.Judged.{Judged}
 use Rattle.shapes.proofs.Reading.{component-small, natural-getD, inside-naturals, past-naturals}
 use Rattle.shapes.proofs.Judging.{rank-counted, rank-small, shape-row, shape-extents}
@@ -84,21 +84,16 @@ module _ (index shape : List ℤ) {k number e : ℕ} (p : Raveled index shape k 
     ravel-add-fits = fits (grown c component)
 
     pub ravel-turn : e ≡ getD (shapeIn shape) k 1 → Raveled index shape (k + 1) (number * e + c)
-    unfolding product ravelIndex
     ravel-turn ee =
-        let rest : ℕ = product (drop (suc k) (shapeIn shape)) in
-        let other : ℕ = ravelIndex (drop (suc k) (naturals index)) (drop (suc k) (shapeIn shape)) in
         let there : c ≡ getD (naturals index) k 0 = ec ∙ sym (natural-getD index k) in
         let inside : k < length (shapeIn shape) = omega (arith, p .long) in
-        let sum : number * (e * rest) + (c * rest + other) ≡ (number * e + c) * rest + other =
-        rw (add-mul (number * e) c rest, mul-assoc number e rest, add-assoc (number * (e * rest)) (c * rest) other) in
         record {
           upto = omega arith;
           long = p .long;
           few = p .few;
           good = p .good;
           size = rw add-one (grown c component);
-          eq = p .eq ∙ rw (add-one, drop-cons (shapeIn shape) k 1 inside, drop-cons (naturals index) k 0 (inside-naturals index k h), ← ee, ← there) sum;
+          eq = p .eq ∙ rw (← ee, ← there) at (ravel-next (naturals index) (shapeIn shape) k number 1 (inside-naturals index k h) inside);
         }
 
 pub ravel-done : {index shape : List ℤ} {k number : ℕ} → Raveled index shape k number → length index ≤ k → number ≡ ravelIndex (naturals index) (shapeIn shape)

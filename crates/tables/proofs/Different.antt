@@ -1,4 +1,4 @@
--- `distinct` and `all_differ`: rows that are all different are as many when they are sorted, and others are fewer. Assumes nothing.
+-- `distinct`: rows that are all different are as many when they are sorted, and others are fewer. Assumes nothing.
 use mathlib.Core.Path.{_≡_, refl, sym, ap, _∙_}
 use mathlib.Core.Bool.{Bool, true, false, not}
 use mathlib.Core.List.{List, [], _∷_}

@@ -27,8 +27,8 @@ rows-below-requires c κs =
 returns-3 : tie.Need-returns-3
 returns-3 c = search (needs, fits)
 
-rows-differ-requires : tie.Need-rows-differ-requires
-rows-differ-requires c κs =
+all-differ-requires : tie.Need-all-differ-requires
+all-differ-requires c κs =
     let natural = c .before .before in
     let some = natural .before .before in
     let axes = some .before in
@@ -37,7 +37,7 @@ rows-differ-requires c κs =
     let told = natural .before .all-natural .ensures in
     let inside = c .before .rows-below .ensures in
     let none = natural .if2 .left in
-    (rows-within _ _ _ (given .1) wide (told .0) (some .if1 .left) none (given .0) inside (c .if3 .left), rows-there _ _ _ (given .1) wide (told .1) none)
+    rows-within _ _ _ (given .1) wide (told .0) (some .if1 .left) none (given .0) inside (c .if3 .left) (rows-there _ _ _ (given .1) wide (told .1) none)
 
 returns-4 : tie.Need-returns-4
 returns-4 c = search (needs, fits)
@@ -52,5 +52,5 @@ rows-fit-spec =
     returns-2
     rows-below-requires
     returns-3
-    rows-differ-requires
+    all-differ-requires
     returns-4)

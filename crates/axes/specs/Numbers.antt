@@ -1,38 +1,32 @@
--- Rows inside a shape, known by their numbers in row-major order; and numbers of which none, or some, stands at two places.
+-- Rows below extents, known by their numbers in row-major order; and numbers of which none, or some, stands at two places.
 use mathlib.Core.Path.{_≡_}
 use mathlib.Core.Bool.{Bool, true, false}
 use mathlib.Core.List.{List, map}
-use Prim.Native.Nat.{ℕ, _+_, _*_, _<_, _≤_}
+use Prim.Native.Nat.{ℕ, _<_, _≤_}
 use lib.IntN.{ℤ}
 use lib.ListN.{length, getD}
-use lib.Signed.{nonNeg}
 use Rattle.rules.specs.Lists.{all, allBelow}
-use Rattle.rules.specs.Buffers.{part}
-use Rattle.rules.specs.Record.{naturals, rowsOf, shapeIn}
 use Rattle.rules.specs.Positions.{ravelIndex}
-use Rattle.shapes.specs.Judged.{Judged}
+use Rattle.tables.specs.Rows.{rowAt, rowsAt, HasRow, HasRows}
+use Rattle.axes.specs.Extents.{Extents}
 
 -- ---- rows
 
--- the w numbers at a are an index of the shape
-pub record RowInside (shape : List ℤ) (a w : ℕ) (numbers : List ℤ) : Type 0 where
-  pub judged : Judged shape
-  pub wide : w ≡ length (shapeIn shape)
-  pub room : a + w ≤ length numbers
-  pub natural : all nonNeg (part a w numbers) ≡ true
-  pub inside : allBelow (part a w (naturals numbers)) (shapeIn shape) ≡ true
+-- the row of w numbers at a of s is an index over the extents at a place of t
+pub record RowInside (a at w : ℕ) (s t : List ℤ) : Type 0 where
+  pub row : HasRow a w s
+  pub extents : Extents at w t
+  pub inside : allBelow (rowAt a w s) (rowAt at w t) ≡ true
 
--- so are n rows of w numbers each
-pub record RowsInside (shape : List ℤ) (w n : ℕ) (numbers : List ℤ) : Type 0 where
-  pub judged : Judged shape
-  pub wide : w ≡ length (shapeIn shape)
-  pub room : n * w ≤ length numbers
-  pub natural : all nonNeg numbers ≡ true
-  pub inside : all (λ row. allBelow row (shapeIn shape)) (rowsOf w n (naturals numbers)) ≡ true
+-- so are n rows from a on
+pub record RowsInside (a at w n : ℕ) (s t : List ℤ) : Type 0 where
+  pub rows : HasRows a w n s
+  pub extents : Extents at w t
+  pub inside : all (λ row. allBelow row (rowAt at w t)) (rowsAt a w n s) ≡ true
 
 -- the number of each row
-abbrev pub rowNumbers : List ℤ → ℕ → ℕ → List ℤ → List ℕ
-rowNumbers shape w n numbers = map (λ row. ravelIndex row (shapeIn shape)) (rowsOf w n (naturals numbers))
+abbrev pub rowNumbers : ℕ → ℕ → ℕ → ℕ → List ℤ → List ℤ → List ℕ
+rowNumbers a at w n s t = map (λ row. ravelIndex row (rowAt at w t)) (rowsAt a w n s)
 
 -- ---- numbers
 

@@ -1,0 +1,16 @@
+-- `all_differ`: rows that increase are all different; of others the pairs tell it, or the numbers.
+use borrow.Author.Needs.{needs}
+use Rattle.tables.proofs.Different.{increasing-differ}
+use Rattle.axes.proofs.all_differ.Statement.{statement}
+use Rattle.axes.proofs.all_differ.Tie as tie
+
+pub all-differ-spec : {M : Type 1} → statement M
+all-differ-spec =
+    tie.close
+    (tie.spec
+    (λ c κs. search needs)  -- is-increasing-requires
+    (λ c. search (needs, increasing-differ))  -- returns
+    (λ c κs. search needs)  -- distinct-requires
+    (λ c. search needs)  -- returns-2
+    (λ c κs. search needs)  -- differ-by-numbers-requires
+    (λ c. search needs))  -- returns-3
