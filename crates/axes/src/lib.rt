@@ -141,8 +141,19 @@ fn differ_by_numbers(s: &[i32], a: usize, n: usize, t: &[i32], at: usize, w: usi
     true
 }
 
-// Whether no two of the n rows from a of s on are the same, which are below the extents at a place of t. Rows that increase are told by one walk, up
-// to 16 others pair by pair, more by their numbers.
+// Whether no two of the n rows from a of s on are the same, which are below the extents at a place of t: up to 16 pair by pair, more by their
+// numbers.
+pub fn differ(s: &[i32], a: usize, n: usize, t: &[i32], at: usize, w: usize) -> bool
+    requires { ⌜ RowsInside a at w n (now s) (now t) ⌝ }
+    ensures { λ r. ⌜ r ≡ distinct (rowsAt a w n (now (s .entry))) ⌝ }
+{
+    if n <= 16 {
+        return tables::distinct(s, a, n, w);
+    }
+    differ_by_numbers(s, a, n, t, at, w)
+}
+
+// The same, but that rows which increase are told by one walk.
 pub fn all_differ(s: &[i32], a: usize, n: usize, t: &[i32], at: usize, w: usize) -> bool
     requires { ⌜ RowsInside a at w n (now s) (now t) ⌝ }
     ensures { λ r. ⌜ r ≡ distinct (rowsAt a w n (now (s .entry))) ⌝ }
@@ -150,10 +161,7 @@ pub fn all_differ(s: &[i32], a: usize, n: usize, t: &[i32], at: usize, w: usize)
     if tables::is_increasing(s, a, n, w) {
         return true;
     }
-    if n <= 16 {
-        return tables::distinct(s, a, n, w);
-    }
-    differ_by_numbers(s, a, n, t, at, w)
+    differ(s, a, n, t, at, w)
 }
 
 // The index of a number goes into a slice from a place on: the last axis first, each by its remainder.

@@ -18,7 +18,7 @@ use Rattle.rules.specs.Limits.{productLimit, resultSize}
 use Rattle.rules.specs.Lists.{if, all, none, gather, allBelow}
 use Rattle.rules.specs.RowsInOrder.{cmpRows, insert, sorted, increasing}
 use Rattle.rules.specs.Layout.{Layout, encode, distinct, few, alike, wellFormed, withinProduct, nonzeroProduct}
-use Rattle.rules.specs.Record.{natural, naturals, rowsOf, entriesOf, shapeIn}
+use Rattle.rules.specs.Record.{naturals, rowsOf, entriesOf, shapeIn}
 use Rattle.rules.specs.Refusals.{given, refused, inForm, numberOf, lowest}
 use Rattle.rules.specs.Soundness.{WellFormed}
 use Rattle.rules.specs.Endings.{EndsIn}

@@ -1,4 +1,4 @@
--- `both_ordered` and `intersect`: reason 4, and two ordered records in a window. Assumes nothing.
+-- `intersect`: reason 4, and two ordered records in a window. Assumes nothing.
 use mathlib.Core.Path.{_≡_, _∙_}
 use mathlib.Core.Bool.{Bool, true, false, not, _&&_}
 use mathlib.Core.List.{List, [], _∷_}
@@ -22,15 +22,9 @@ use Rattle.intersecting.specs.Intersecting.{OrderedWindow}
 
 -- ---- in order
 
--- both of two tests hold, as they are told one after the other
-module _ (a b : Bool) {p : Bool} (p-is : p ≡ a) where
-  pub both-not-first : p ≡ false → false ≡ a && b
-  both-not-first e = rw (← p-is, e)
-
-  pub both-by-second : p ≡ true → {q : Bool} → q ≡ b → q ≡ a && b
-  both-by-second e q-is = rw (← p-is, e) q-is
-
-pub ruleset both-laws = (both-not-first, both-by-second)
+-- both of two tests hold, as they were told
+pub both-told : (a b : Bool) {p q r : Bool} → p ≡ a → q ≡ b → r ≡ (p && q) → r ≡ (a && b)
+both-told a b p-is q-is e = e ∙ rw (p-is, q-is)
 
 -- 4, unless both are in order
 abbrev pub order : List ℤ → List ℤ → List Reason

@@ -8,13 +8,11 @@ ghost use mathlib.Core.Bool.{_&&_};
 ghost use lib.ListN.{length};
 ghost use Rattle.rules.specs.Refusals.{inForm};
 ghost use Rattle.rules.specs.Layout.{encode};
-ghost use Rattle.rules.specs.Record.{ordered};
 ghost use Rattle.rules.specs.Endings.{Ends};
 ghost use Rattle.rules.specs.Union.{unionCall};
 ghost use Rattle.rules.specs.Intersect.{intersectCall};
-ghost use Rattle.records.specs.Sound.{SoundRecord};
 use judging::Sizes;
-use rules::Head;
+use records::Finding;
 use rules::Refusal;
 use rules::Walk;
 use rules::Written;
@@ -38,13 +36,12 @@ pub fn union(left: &[i32], right: &[i32], result: &mut [i32], work: &mut [i32]) 
     parts::finish(step, work, parts::TARGET, result)
 }
 
-// Whether the rows of two sound records increase.
-fn both_ordered(left: &[i32], first: Head, right: &[i32], second: Head) -> bool
-    requires { ⌜ SoundRecord first (now left) × SoundRecord second (now right) ⌝ }
-    ensures { λ r. ⌜ r ≡ (ordered (now (left .entry)) && ordered (now (right .entry))) ⌝ }
+// Whether both of two tests hold.
+fn both(a: bool, b: bool) -> bool
+    ensures { λ r. ⌜ r ≡ (a && b) ⌝ }
 {
-    if records::rows_ordered(left, first) {
-        return records::rows_ordered(right, second);
+    if a {
+        return b;
     }
     false
 }
@@ -57,13 +54,13 @@ pub fn intersect(left: &[i32], right: &[i32], result: &mut [i32], work: &mut [i3
     if let Sizes::Refused(reason) = judging::judge_sizes(over, result.len(), work.len()) {
         return Written::Refused(reason);
     }
-    let Walk::To(first) = records::sound_head(left) else {
+    let Finding::Sound(first, left_ordered) = records::judged(left) else {
         return parts::refuse(Refusal::Unsound, work);
     };
-    let Walk::To(second) = records::sound_head(right) else {
+    let Finding::Sound(second, right_ordered) = records::judged(right) else {
         return parts::refuse(Refusal::Unsound, work);
     };
-    if !both_ordered(left, first, right, second) {
+    if !both(left_ordered, right_ordered) {
         return parts::refuse(Refusal::Unordered, work);
     }
     parts::load_pair(left, first, right, second, &mut work[0..parts::WINDOW]);

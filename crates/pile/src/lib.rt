@@ -11,10 +11,10 @@ ghost use Rattle.rules.specs.Pile.{exchangeCall, exchangeAllCall};
 ghost use Rattle.pile.specs.Slots.{SlotsAre, SlotsIn};
 ghost use Rattle.pile.specs.Exchanging.{sixth, United, BothMade, slotsCall, Exchanged, AllExchanged};
 use cells::Sign;
+use records::Finding;
 use rules::Number;
 use rules::Refusal;
 use rules::Step;
-use rules::Walk;
 
 // The last part of the working buffer, behind the window of a step: the union waits there until the intersection is made too.
 const SIXTH: usize = parts::WINDOW;
@@ -67,20 +67,20 @@ fn make_both(left: &[i32], right: &[i32], work: &mut [i32]) -> Step
     requires { ⌜ workSize ≤ length (now work) ⌝ }
     ensures { λ r. ⌜ BothMade (now (left .entry)) (now (right .entry)) (now (work .entry)) (now (work .exit)) r ⌝ }
 {
-    let Walk::To(first) = records::sound_head(left) else {
+    let Finding::Sound(first, left_ordered) = records::judged(left) else {
         return Step::Refused(Refusal::Unsound);
     };
-    let Walk::To(second) = records::sound_head(right) else {
+    let Finding::Sound(second, right_ordered) = records::judged(right) else {
         return Step::Refused(Refusal::Unsound);
     };
     parts::load_pair(left, first, right, second, &mut work[0..parts::WINDOW]);
     if let Step::Refused(why) = unite(work) {
         return Step::Refused(why);
     }
-    if !records::rows_ordered(left, first) {
+    if !left_ordered {
         return Step::Refused(Refusal::Unordered);
     }
-    if !records::rows_ordered(right, second) {
+    if !right_ordered {
         return Step::Refused(Refusal::Unordered);
     }
     intersecting::intersect_in(&mut work[0..parts::WINDOW])

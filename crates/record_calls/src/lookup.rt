@@ -2,9 +2,9 @@
 ghost use mathlib.Core.Path.{_≡_};
 ghost use Rattle.rules.specs.Endings.{placeSays};
 ghost use Rattle.rules.specs.Lookup.{findNnzIndexCall};
+use records::Finding;
 use rules::Place;
 use rules::Refusal;
-use rules::Walk;
 
 // Where a record has an index.
 pub fn find_nnz_index(record: &[i32], index: &[i32]) -> Place
@@ -13,10 +13,10 @@ pub fn find_nnz_index(record: &[i32], index: &[i32]) -> Place
     if records::over_record(record) {
         return Place::Refused(Refusal::OverCount);
     }
-    let Walk::To(head) = records::sound_head(record) else {
+    let Finding::Sound(head, ordered) = records::judged(record) else {
         return Place::Refused(Refusal::Unsound);
     };
-    if !records::rows_ordered(record, head) {
+    if !ordered {
         return Place::Refused(Refusal::Unordered);
     }
     if !shapes::good_index(index, head.rank) {

@@ -25,13 +25,16 @@ use Rattle.cells.specs.declared.Sign.{Sign}
 use Rattle.cells.specs.declared.Sign.the-variants.{Natural, Negative}
 use Rattle.cells.specs.View.{view, Low, signOf}
 use Rattle.cells.proofs.Signed.{held, back}
+use Rattle.records.specs.declared.Fit.{Fit}
+use Rattle.records.specs.declared.Fit.the-variants.{Unfit}
 use Rattle.records.specs.Slices.{BeginsAt}
 use Rattle.records.specs.Heads.{HeadOf}
-use Rattle.records.specs.Judging.{Readable, fewEntries}
+use Rattle.records.specs.Judging.{Readable, fewEntries, fitOf, rowsIncrease}
 use Rattle.records.specs.Sound.{SoundRecord, soundHead}
 use Rattle.records.proofs.Sections.{sign-natural, sign-negative}
 use Rattle.tables.proofs.Passing.{row-room}
 use Rattle.records.proofs.InTurn.{first-fails, first-holds}
+use Rattle.records.proofs.Fits.{unfit}
 use Rattle.records.proofs.Layouts.{rows-room}
 use Rattle.records.proofs.SoundRecords.{readable-head, sound-record, no-head}
 
@@ -83,10 +86,16 @@ module _ {h : Head} {s : List ℤ} (g : HeadOf h s) where
 
 -- ---- a walked record: `sound_by`
 
+-- what is found of it, by whether it is sound
+abbrev found : Head → List ℤ → Fit
+found h s = fitOf (soundFrom (To h) s) (rowsIncrease h s)
+
 module _ {h : Head} {s : List ℤ} (g : HeadOf h s) {t₁ : Bool} (e₁ : t₁ ≡ fewEntries h) where
   -- it has too many entries
-  pub too-many : not t₁ ≡ true → false ≡ soundFrom (To h) s
-  too-many f = sym (rw (many-entries g (sym e₁ ∙ not-true t₁ f)) (and-false (all nonNeg (take (h .inputs .next) s))))
+  pub too-many : not t₁ ≡ true → Unfit ≡ found h s
+  too-many f =
+      unfit (soundFrom (To h) s) (rowsIncrease h s)
+      (sym (rw (many-entries g (sym e₁ ∙ not-true t₁ f)) (and-false (all nonNeg (take (h .inputs .next) s)))))
 
   module _ (f₁ : not t₁ ≡ false) {t₂ : Bool} where
     -- it is readable
@@ -95,19 +104,23 @@ module _ {h : Head} {s : List ℤ} (g : HeadOf h s) {t₁ : Bool} (e₁ : t₁ �
 
 module _ (h : Head) (s : List ℤ) {t : Bool} (e : t ≡ all nonNeg (take (h .inputs .next) s)) where
   -- it has a negative number
-  pub is-negative : not t ≡ true → false ≡ soundFrom (To h) s
-  is-negative f = first-fails (soundLayout (layoutBy h s)) e f
+  pub is-negative : not t ≡ true → Unfit ≡ found h s
+  is-negative f = unfit (soundFrom (To h) s) (rowsIncrease h s) (first-fails (soundLayout (layoutBy h s)) e f)
 
   module _ (f : not t ≡ false) {u : Bool} (d : u ≡ withinSizes (layoutBy h s)) where
     -- it breaks a limit of size
-    pub is-large : not u ≡ true → false ≡ soundFrom (To h) s
+    pub is-large : not u ≡ true → Unfit ≡ found h s
     unfolding soundLayout
-    is-large k = sym (first-holds e f ∙ rw (← d, not-true u k) (and-false (wellFormed (layoutBy h s))))
+    is-large k =
+        unfit (soundFrom (To h) s) (rowsIncrease h s)
+        (sym (first-holds e f ∙ rw (← d, not-true u k) (and-false (wellFormed (layoutBy h s)))))
 
     -- it keeps them, so the other rules decide
-    pub by-form : {v : Bool} → not u ≡ false → v ≡ wellFormed (layoutBy h s) → v ≡ soundFrom (To h) s
+    pub by-form : {r : Fit} → not u ≡ false → r ≡ fitOf (wellFormed (layoutBy h s)) (rowsIncrease h s) → r ≡ found h s
     unfolding soundLayout
-    by-form k q = q ∙ sym (first-holds e f ∙ rw (← d, not-false u k) (and-true (wellFormed (layoutBy h s))))
+    by-form k q =
+        q
+        ∙ ap (λ (b : Bool). fitOf b (rowsIncrease h s)) (sym (first-holds e f ∙ rw (← d, not-false u k) (and-true (wellFormed (layoutBy h s)))))
 
 pub ruleset judged = (too-many, is-readable, is-negative, is-large, by-form)
 

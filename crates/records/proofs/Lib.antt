@@ -18,6 +18,7 @@ pub mod InTurn
 pub mod Naturals
 pub mod Numbers
 pub mod Counts
+pub mod Fits
 pub mod RowTests
 pub mod KindTests
 pub mod Layouts

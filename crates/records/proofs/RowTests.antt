@@ -10,13 +10,17 @@ use lib.Seq.{take-take}
 use Rattle.rules.specs.declared.Entries.{Entries}
 use Rattle.rules.specs.Lists.{all}
 use Rattle.rules.specs.Buffers.{part}
+use Rattle.rules.specs.RowsInOrder.{increasing}
 use Rattle.rules.specs.Layout.{distinct}
 use Rattle.cells.specs.View.{view}
 use Rattle.tables.specs.Rows.{rowAt, rowsAt, HasRows}
+use Rattle.tables.proofs.Different.{increasing-differ}
 use Rattle.tables.proofs.Passing.{Passed, all-passed, rows-start, rows-more, rows-fail}
 use Rattle.axes.specs.Extents.{Extents}
 use Rattle.axes.specs.Numbers.{RowsInside}
-use Rattle.records.specs.Judging.{rowsBelow, rowsFit, small, smallDep, smallDeps}
+use Rattle.records.specs.declared.Fit.the-variants.{Unfit, InOrder, Mixed}
+use Rattle.records.specs.Judging.{rowsBelow, rowsFit, fitOf, small, smallDep, smallDeps}
+use Rattle.records.proofs.Fits.{unfit}
 
 -- ---- small components of dependencies
 
@@ -46,10 +50,13 @@ pub ruleset smalls = (rows-start, deps-more, deps-fail, all-small)
 -- ---- all rows below the extents, and different
 
 module _ (e : Entries) (w : ℕ) (s : List ℤ) {t : Bool} (p : t ≡ rowsBelow (e .first) w (e .count) s) where
+  abbrev rows : List (List ℕ)
+  rows = rowsAt (e .first) w (e .count) s
+
   -- a row is outside
-  pub row-outside : not t ≡ true → false ≡ rowsFit e w s
+  pub row-outside : not t ≡ true → Unfit ≡ fitOf (rowsFit e w s) (increasing rows)
   unfolding rowsFit
-  row-outside f = sym (rw (← p, not-true t f) (and-false (distinct (rowsAt (e .first) w (e .count) s))))
+  row-outside f = unfit _ (increasing rows) (sym (rw (← p, not-true t f) (and-false (distinct rows))))
 
   module _ (f : not t ≡ false) where
     -- all rows are inside
@@ -57,8 +64,24 @@ module _ (e : Entries) (w : ℕ) (s : List ℤ) {t : Bool} (p : t ≡ rowsBelow 
     rows-inside r x = record { rows = r; extents = x; inside = sym p ∙ not-false t f }
 
     -- whether they differ decides
-    pub rows-right : {u : Bool} → u ≡ distinct (rowsAt (e .first) w (e .count) s) → u ≡ rowsFit e w s
+    fit-is : rowsFit e w s ≡ distinct rows
     unfolding rowsFit
-    rows-right q = q ∙ sym (rw (← p, not-false t f) (and-true (distinct (rowsAt (e .first) w (e .count) s))))
+    fit-is = rw (← p, not-false t f) (and-true (distinct rows))
 
-pub ruleset fits = (row-outside, rows-inside, rows-right)
+    module _ {u : Bool} (q : u ≡ increasing rows) where
+      -- they increase
+      pub rows-increase : u ≡ true → InOrder ≡ fitOf (rowsFit e w s) (increasing rows)
+      unfolding fitOf
+      rows-increase g = rw (fit-is, ← increasing-differ rows q g, ← q, g)
+
+      module _ {v : Bool} (d : v ≡ distinct rows) where
+        -- they are in no order
+        pub rows-mixed : u ≡ false → v ≡ true → Mixed ≡ fitOf (rowsFit e w s) (increasing rows)
+        unfolding fitOf
+        rows-mixed g h = rw (fit-is, ← d, h, ← q, g)
+
+        -- two are the same
+        pub row-twice : v ≡ false → Unfit ≡ fitOf (rowsFit e w s) (increasing rows)
+        row-twice h = unfit _ (increasing rows) (sym (fit-is ∙ sym d ∙ h))
+
+pub ruleset fits = (row-outside, rows-inside, rows-increase, rows-mixed, row-twice)

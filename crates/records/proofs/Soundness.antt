@@ -1,5 +1,5 @@
 -- A readable record is sound where the tests that are put to its slice hold. Assumes nothing.
-use mathlib.Core.Path.{_≡_, sym, _∙_}
+use mathlib.Core.Path.{_≡_, sym, ap, _∙_}
 use mathlib.Core.Bool.{Bool, true, false, not, _&&_, and-assoc, and-true}
 use mathlib.Core.List.{List}
 use Prim.Native.Nat.{_+_, _*_, _≤_}
@@ -20,8 +20,11 @@ use Rattle.cells.specs.View.{view}
 use Rattle.tables.specs.Rows.{rowAt, rowsAt}
 use Rattle.tables.proofs.Rows.{front-row}
 use Rattle.axes.specs.Extents.{Extents}
-use Rattle.records.specs.Judging.{Readable, kindFits, axesFit, rowsFit, smallDeps}
-use Rattle.records.proofs.InTurn.{first-fails, first-holds}
+use Rattle.records.specs.declared.Fit.{Fit}
+use Rattle.records.specs.declared.Fit.the-variants.{Unfit}
+use Rattle.records.specs.Judging.{Readable, kindFits, axesFit, rowsFit, smallDeps, fitOf, rowsIncrease}
+use Rattle.records.proofs.InTurn.{first-fails, first-holds, first-last}
+use Rattle.records.proofs.Fits.{unfit}
 use Rattle.records.proofs.Layouts.{layout-seen, bounds}
 use Rattle.records.proofs.Conjuncts.{dense-within, rank-within, all-dense, diagonal-seen, no-rows, rows-seen, deps-seen, deps-small, few-seen}
 
@@ -34,7 +37,7 @@ module _ {h : Head} {s : List ℤ} (p : Readable h s) where
   inputs-in : h .inputs .first + h .inputs .count * (h .rank + 1) ≤ length s
   inputs-in = omega (arith, bounds p)
 
-  -- the rules other than size, in the order in which they are tested
+  -- the rules other than size
   formed : wellFormed (layoutBy h s) ≡
       kindFits (h .rows .count) s && (rowsFit (h .rows) (h .width) s && (axesFit (h .width) s
       && (increasing (rowsAt (h .states .first) (h .rank + 1) (h .states .count) s) && increasing (rowsAt (h .inputs .first) (h .rank + 1) (h .inputs .count) s))))
@@ -52,6 +55,16 @@ module _ {h : Head} {s : List ℤ} (p : Readable h s) where
         deps-seen p (h .inputs .first) (h .inputs .count) inputs-in,
       )
       (simp (and-true, and-assoc))
+
+  -- the same in the order in which they are tested: whether the rows fit comes last
+  formed-in-turn : wellFormed (layoutBy h s) ≡
+      kindFits (h .rows .count) s && (axesFit (h .width) s && (increasing (rowsAt (h .states .first) (h .rank + 1) (h .states .count) s)
+      && (increasing (rowsAt (h .inputs .first) (h .rank + 1) (h .inputs .count) s) && rowsFit (h .rows) (h .width) s)))
+  formed-in-turn =
+      formed
+      ∙ ap (λ (b : Bool). kindFits (h .rows .count) s && b)
+      (first-last (rowsFit (h .rows) (h .width) s) (axesFit (h .width) s) (increasing (rowsAt (h .states .first) (h .rank + 1) (h .states .count) s))
+      (increasing (rowsAt (h .inputs .first) (h .rank + 1) (h .inputs .count) s)))
 
   -- the limits of size, in the order in which they are tested
   sized : withinSizes (layoutBy h s) ≡
@@ -83,36 +96,44 @@ module _ {h : Head} {s : List ℤ} (p : Readable h s) where
 
 -- ---- one test after the other: `well_formed`
 
+-- what is found of the rows of a record, by whether it is well-formed
+abbrev found : Head → List ℤ → Fit
+found h s = fitOf (wellFormed (layoutBy h s)) (rowsIncrease h s)
+
 module _ {h : Head} {s : List ℤ} (p : Readable h s) {t₁ : Bool} (e₁ : t₁ ≡ kindFits (h .rows .count) s) where
+  -- a test fails
+  fails : false ≡ wellFormed (layoutBy h s) → Unfit ≡ found h s
+  fails e = unfit (wellFormed (layoutBy h s)) (rowsIncrease h s) e
+
   -- the kind does not fit
-  pub kind-wrong : not t₁ ≡ true → false ≡ wellFormed (layoutBy h s)
-  kind-wrong f = first-fails _ e₁ f ∙ sym (formed p)
+  pub kind-wrong : not t₁ ≡ true → Unfit ≡ found h s
+  kind-wrong f = fails (first-fails _ e₁ f ∙ sym (formed-in-turn p))
 
-  module _ (f₁ : not t₁ ≡ false) {t₂ : Bool} (e₂ : t₂ ≡ rowsFit (h .rows) (h .width) s) where
-    -- a row does not fit
-    pub rows-wrong : not t₂ ≡ true → false ≡ wellFormed (layoutBy h s)
-    rows-wrong f = first-fails _ e₂ f ∙ sym (formed p ∙ first-holds e₁ f₁)
+  module _ (f₁ : not t₁ ≡ false) {t₂ : Bool} (e₂ : t₂ ≡ axesFit (h .width) s) where
+    -- the axes do not fit the kind
+    pub axes-wrong : not t₂ ≡ true → Unfit ≡ found h s
+    axes-wrong f = fails (first-fails _ e₂ f ∙ sym (formed-in-turn p ∙ first-holds e₁ f₁))
 
-    module _ (f₂ : not t₂ ≡ false) {t₃ : Bool} (e₃ : t₃ ≡ axesFit (h .width) s) where
+    module _ (f₂ : not t₂ ≡ false) {t₃ : Bool} (e₃ : t₃ ≡ increasing (rowsAt (h .states .first) (h .rank + 1) (h .states .count) s)) where
       -- what is left to test
-      rest₃ : wellFormed (layoutBy h s) ≡ axesFit (h .width) s
-          && (increasing (rowsAt (h .states .first) (h .rank + 1) (h .states .count) s) && increasing (rowsAt (h .inputs .first) (h .rank + 1) (h .inputs .count) s))
-      rest₃ = formed p ∙ first-holds e₁ f₁ ∙ first-holds e₂ f₂
+      rest₃ : wellFormed (layoutBy h s) ≡ increasing (rowsAt (h .states .first) (h .rank + 1) (h .states .count) s)
+          && (increasing (rowsAt (h .inputs .first) (h .rank + 1) (h .inputs .count) s) && rowsFit (h .rows) (h .width) s)
+      rest₃ = formed-in-turn p ∙ first-holds e₁ f₁ ∙ first-holds e₂ f₂
 
-      -- the axes do not fit the kind
-      pub axes-wrong : not t₃ ≡ true → false ≡ wellFormed (layoutBy h s)
-      axes-wrong f = first-fails _ e₃ f ∙ sym rest₃
+      -- the dependencies on states do not increase
+      pub states-wrong : not t₃ ≡ true → Unfit ≡ found h s
+      states-wrong f = fails (first-fails _ e₃ f ∙ sym rest₃)
 
-      module _ (f₃ : not t₃ ≡ false) {t₄ : Bool} (e₄ : t₄ ≡ increasing (rowsAt (h .states .first) (h .rank + 1) (h .states .count) s)) where
-        -- the dependencies on states do not increase
-        pub states-wrong : not t₄ ≡ true → false ≡ wellFormed (layoutBy h s)
-        states-wrong f = first-fails _ e₄ f ∙ sym (rest₃ ∙ first-holds e₃ f₃)
+      module _ (f₃ : not t₃ ≡ false) {t₄ : Bool} (e₄ : t₄ ≡ increasing (rowsAt (h .inputs .first) (h .rank + 1) (h .inputs .count) s)) where
+        -- those on inputs do not
+        pub inputs-wrong : not t₄ ≡ true → Unfit ≡ found h s
+        inputs-wrong f = fails (first-fails _ e₄ f ∙ sym (rest₃ ∙ first-holds e₃ f₃))
 
-        -- those on inputs decide
-        pub well-formed : {t₅ : Bool} → not t₄ ≡ false → t₅ ≡ increasing (rowsAt (h .inputs .first) (h .rank + 1) (h .inputs .count) s) → t₅ ≡ wellFormed (layoutBy h s)
-        well-formed f₄ e₅ = e₅ ∙ sym (rest₃ ∙ first-holds e₃ f₃ ∙ first-holds e₄ f₄)
+        -- the rows decide
+        pub well-formed : {r : Fit} → not t₄ ≡ false → r ≡ fitOf (rowsFit (h .rows) (h .width) s) (rowsIncrease h s) → r ≡ found h s
+        well-formed f₄ e₅ = e₅ ∙ ap (λ (b : Bool). fitOf b (rowsIncrease h s)) (sym (rest₃ ∙ first-holds e₃ f₃ ∙ first-holds e₄ f₄))
 
-pub ruleset forms = (row-extents, kind-wrong, rows-wrong, axes-wrong, states-wrong, well-formed)
+pub ruleset forms = (row-extents, kind-wrong, axes-wrong, states-wrong, inputs-wrong, well-formed)
 
 -- ---- one test after the other: `within_sizes`
 

@@ -1,6 +1,6 @@
 -- The tests that make a record sound, as they are put to the numbers of its slice.
 use mathlib.Core.Path.{_≡_}
-use mathlib.Core.Bool.{Bool, true, _&&_, _||_}
+use mathlib.Core.Bool.{Bool, true, false, _&&_, _||_}
 use mathlib.Core.List.{List}
 use Prim.Native.Nat.{ℕ, _+_}
 use lib.Dec.{eqb, leb}
@@ -12,10 +12,13 @@ use Rattle.rules.specs.declared.Walk.the-variants.{To}
 use Rattle.rules.specs.Limits.{rankLimit, entryLimit, componentLimit}
 use Rattle.rules.specs.Lists.{implies, all, allBelow}
 use Rattle.rules.specs.Buffers.{part}
+use Rattle.rules.specs.RowsInOrder.{increasing}
 use Rattle.rules.specs.Layout.{alike, distinct}
 use Rattle.rules.specs.Record.{walk}
 use Rattle.cells.specs.View.{view, Low}
 use Rattle.tables.specs.Rows.{rowsAt}
+use Rattle.records.specs.declared.Fit.{Fit}
+use Rattle.records.specs.declared.Fit.the-variants.{Unfit, InOrder, Mixed}
 use Rattle.records.specs.Heads.{HeadOf}
 
 -- the rank and the counts are within their limits
@@ -64,3 +67,19 @@ smallDeps a rank n s = all (smallDep rank) (rowsAt a (rank + 1) n s)
 -- rows are all different, and below the extents
 unfoldable pub rowsFit : Entries → ℕ → List ℤ → Bool
 rowsFit rows w s = distinct (rowsAt (rows .first) w (rows .count) s) && rowsBelow (rows .first) w (rows .count) s
+
+-- the rows of a record increase
+abbrev pub rowsIncrease : Head → List ℤ → Bool
+rowsIncrease h s = increasing (rowsAt (h .rows .first) (h .width) (h .rows .count) s)
+
+-- what is found, by whether the rows fit and whether they increase
+unfoldable pub fitOf : Bool → Bool → Fit
+fitOf false o = Unfit
+fitOf true true = InOrder
+fitOf true false = Mixed
+
+-- a record that fits is readable
+abbrev pub ReadableFit : Fit → Head → List ℤ → Type 0
+ReadableFit Unfit h s = Unit
+ReadableFit InOrder h s = Readable h s
+ReadableFit Mixed h s = Readable h s

@@ -8,24 +8,38 @@ ghost use Prim.Native.Nat.{_+_, _^_, _<_, _≤_};
 ghost use lib.ListN.{length, take};
 ghost use lib.Signed.{nonNeg};
 ghost use Rattle.rules.specs.Lists.{all};
+ghost use Rattle.rules.specs.RowsInOrder.{increasing};
 ghost use Rattle.rules.specs.Buffers.{part};
 ghost use Rattle.rules.specs.Layout.{alike, wellFormed, withinSizes};
 ghost use Rattle.rules.specs.Record.{sectionAt, walk, layoutBy, soundFrom, sound, ordered, rowPart, rowStart, row, rowPlace};
 ghost use Rattle.rules.specs.declared.Walk.the-variants.{To};
 ghost use Rattle.rules.specs.Arguments.{overRecord};
 ghost use Rattle.cells.specs.View.{view, Low};
-ghost use Rattle.tables.specs.Rows.{HasRow, HasRows};
+ghost use Rattle.tables.specs.Rows.{rowsAt, HasRow, HasRows};
 ghost use Rattle.axes.specs.Extents.{Extents};
 ghost use Rattle.records.specs.Slices.{BeginsAt};
 ghost use Rattle.records.specs.Sections.{SectionIn};
 ghost use Rattle.records.specs.Heads.{HeadOf};
-ghost use Rattle.records.specs.Judging.{Readable, ReadableRecord, fewEntries, kindFits, axesFit, rowsFit, small, smallDeps};
-ghost use Rattle.records.specs.Sound.{SoundRecord, soundHead, ReadableHead};
+ghost use Rattle.records.specs.Judging.{Readable, ReadableRecord, fewEntries, kindFits, axesFit, rowsFit, small, smallDeps, fitOf, rowsIncrease, ReadableFit};
+ghost use Rattle.records.specs.Sound.{SoundRecord, soundHead, ReadableHead, Found};
 use cells::Sign;
 use rules::Entries;
 use rules::Head;
 use rules::Section;
 use rules::Walk;
+
+// What judging rows finds: they do not fit, or they do and increase, or they do and stand in no order.
+enum Fit {
+    Unfit,
+    InOrder,
+    Mixed,
+}
+
+// What judging the record at the front of a slice finds: it is sound, with its head and whether its rows increase, or it is not.
+pub enum Finding {
+    Sound(Head, bool),
+    Unsound,
+}
 
 // Where a record has its kind.
 pub const KIND: usize = 0;
@@ -227,16 +241,22 @@ fn axes_fit(s: &[i32], width: usize) -> bool
     true
 }
 
-// Whether the components of the rows are below the extents and the rows differ from each other.
-fn rows_fit(s: &[i32], rows: Entries, width: usize) -> bool
+// Whether the components of the rows are below the extents and the rows differ from each other, and their order then.
+fn rows_fit(s: &[i32], rows: Entries, width: usize) -> Fit
     requires { ⌜ HasRows (rows .first) width (rows .count) (now s) ⌝ }
     requires { ⌜ Extents 3 width (now s) ⌝ }
-    ensures { λ r. ⌜ r ≡ rowsFit rows width (now (s .entry)) ⌝ }
+    ensures { λ r. ⌜ r ≡ fitOf (rowsFit rows width (now (s .entry))) (increasing (rowsAt (rows .first) width (rows .count) (now (s .entry)))) ⌝ }
 {
     if !axes::rows_below(s, rows.first, rows.count, s, EXTENTS, width) {
-        return false;
+        return Fit::Unfit;
     }
-    axes::all_differ(s, rows.first, rows.count, s, EXTENTS, width)
+    if tables::is_increasing(s, rows.first, rows.count, width) {
+        return Fit::InOrder;
+    }
+    if axes::differ(s, rows.first, rows.count, s, EXTENTS, width) {
+        return Fit::Mixed;
+    }
+    Fit::Unfit
 }
 
 // Whether a readable record keeps the limits of size.
@@ -255,48 +275,63 @@ fn within_sizes(s: &[i32], h: Head) -> bool
     small_deps(s, inputs.first, inputs.count, h.rank)
 }
 
-// Whether a readable record that keeps the limits of size obeys the other rules of soundness.
-fn well_formed(s: &[i32], h: Head) -> bool
+// Whether a readable record that keeps the limits of size obeys the other rules of soundness, and the order of its rows then.
+fn well_formed(s: &[i32], h: Head) -> Fit
     requires { ⌜ Readable h (now s) ⌝ }
     requires { ⌜ withinSizes (layoutBy h (now s)) ≡ true ⌝ }
-    ensures { λ r. ⌜ r ≡ wellFormed (layoutBy h (now (s .entry))) ⌝ }
+    ensures { λ r. ⌜ r ≡ fitOf (wellFormed (layoutBy h (now (s .entry)))) (rowsIncrease h (now (s .entry))) ⌝ }
 {
     let rows = h.rows;
     let states = h.states;
     let inputs = h.inputs;
     let wide = h.rank + 1;
     if !kind_fits(s, rows.count) {
-        return false;
-    }
-    if !rows_fit(s, rows, h.width) {
-        return false;
+        return Fit::Unfit;
     }
     if !axes_fit(s, h.width) {
-        return false;
+        return Fit::Unfit;
     }
     if !tables::is_increasing(s, states.first, states.count, wide) {
-        return false;
+        return Fit::Unfit;
     }
-    tables::is_increasing(s, inputs.first, inputs.count, wide)
+    if !tables::is_increasing(s, inputs.first, inputs.count, wide) {
+        return Fit::Unfit;
+    }
+    rows_fit(s, rows, h.width)
 }
 
-// Whether a walked record is sound; if so, it is readable. The counts are tested first, so that no later test takes long.
-fn sound_by(s: &[i32], h: Head) -> bool
+// Whether a walked record is sound, and the order of its rows then; it is readable then, too. The counts are tested first, so that no later test
+// takes long.
+fn sound_by(s: &[i32], h: Head) -> Fit
     requires { ⌜ HeadOf h (now s) ⌝ }
-    ensures is { λ r. ⌜ r ≡ soundFrom (To h) (now (s .entry)) ⌝ }
-    ensures readable { λ r. ⌜ (r ≡ true → Readable h (now (s .entry))) ⌝ }
+    ensures is { λ r. ⌜ r ≡ fitOf (soundFrom (To h) (now (s .entry))) (rowsIncrease h (now (s .entry))) ⌝ }
+    ensures readable { λ r. ⌜ ReadableFit r h (now (s .entry)) ⌝ }
 {
     if !few_entries(h) {
-        return false;
+        return Fit::Unfit;
     }
     let inputs = h.inputs;
     if !all_natural(s, inputs.next) {
-        return false;
+        return Fit::Unfit;
     }
     if !within_sizes(s, h) {
-        return false;
+        return Fit::Unfit;
     }
     well_formed(s, h)
+}
+
+// What the record at the front of a slice is found to be.
+pub fn judged(s: &[i32]) -> Finding
+    ensures { λ r. ⌜ Found r (now (s .entry)) ⌝ }
+{
+    let Walk::To(h) = walk_record(s) else {
+        return Finding::Unsound;
+    };
+    match sound_by(s, h) {
+        Fit::Unfit => Finding::Unsound,
+        Fit::InOrder => Finding::Sound(h, true),
+        Fit::Mixed => Finding::Sound(h, false),
+    }
 }
 
 // The head of the record at the front of a slice, if the record is sound; it is readable then.
@@ -304,13 +339,10 @@ pub fn sound_head(s: &[i32]) -> Walk
     ensures is { λ r. ⌜ r ≡ soundHead (now (s .entry)) ⌝ }
     ensures readable { λ r. ⌜ ReadableHead r (now (s .entry)) ⌝ }
 {
-    let Walk::To(h) = walk_record(s) else {
-        return Walk::Broken;
-    };
-    if !sound_by(s, h) {
-        return Walk::Broken;
+    match judged(s) {
+        Finding::Sound(h, _) => Walk::To(h),
+        Finding::Unsound => Walk::Broken,
     }
-    Walk::To(h)
 }
 
 // Whether the record at the front of a slice is sound; if so, it is readable.
@@ -318,9 +350,9 @@ pub fn sound(s: &[i32]) -> bool
     ensures is { λ r. ⌜ r ≡ sound (now (s .entry)) ⌝ }
     ensures readable { λ r. ⌜ (r ≡ true → ReadableRecord (now (s .entry))) ⌝ }
 {
-    match sound_head(s) {
-        Walk::To(_) => true,
-        Walk::Broken => false,
+    match judged(s) {
+        Finding::Sound(_, _) => true,
+        Finding::Unsound => false,
     }
 }
 
@@ -337,9 +369,9 @@ pub fn rows_ordered(s: &[i32], h: Head) -> bool
 pub fn ordered(s: &[i32]) -> bool
     ensures { λ r. ⌜ r ≡ ordered (now (s .entry)) ⌝ }
 {
-    match sound_head(s) {
-        Walk::To(h) => rows_ordered(s, h),
-        Walk::Broken => false,
+    match judged(s) {
+        Finding::Sound(_, increase) => increase,
+        Finding::Unsound => false,
     }
 }
 

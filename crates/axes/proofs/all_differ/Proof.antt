@@ -1,4 +1,4 @@
--- `all_differ`: rows that increase are all different; of others the pairs tell it, or the numbers.
+-- `all_differ`: rows that increase are all different.
 use borrow.Author.Needs.{needs}
 use Rattle.tables.proofs.Different.{increasing-differ}
 use Rattle.axes.proofs.all_differ.Statement.{statement}
@@ -10,7 +10,5 @@ all-differ-spec =
     (tie.spec
     (λ c κs. search needs)  -- is-increasing-requires
     (λ c. search (needs, increasing-differ))  -- returns
-    (λ c κs. search needs)  -- distinct-requires
-    (λ c. search needs)  -- returns-2
-    (λ c κs. search needs)  -- differ-by-numbers-requires
-    (λ c. search needs))  -- returns-3
+    (λ c κs. search needs)  -- differ-requires
+    (λ c. search needs))  -- returns-2

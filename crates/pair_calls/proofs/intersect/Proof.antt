@@ -1,19 +1,21 @@
 -- `intersect`: what is judged, both records loaded and intersected in a window that is lent twice, and the end of the call.
-use mathlib.Core.Bool.{_||_}
+use mathlib.Core.Path.{_≡_, refl}
+use mathlib.Core.Bool.{_&&_, _||_}
 use native.Mathlib.Omega.{arith}
 use borrow.Author.Needs.{needs}
 use borrow.Author.Tests.{not-true, not-false}
 use denote.Ref.{now}
 use lib.ListN.{length, length-take}
 use Rattle.rules.specs.declared.Refusal.the-variants.{Unordered}
+use Rattle.rules.specs.Record.{ordered}
 use Rattle.rules.specs.Arguments.{overRecord}
 use Rattle.rules.specs.Intersect.{intersect, intersectCall}
 use Rattle.records.specs.Sound.{SoundRecord}
-use Rattle.records.proofs.SoundRecords.{sound-record}
+use Rattle.records.proofs.SoundRecords.{none-found, head-found, found-sound, order-found}
 use Rattle.judging.specs.LentSizes.{SizesKept}
 use Rattle.judging.proofs.PairCalls.{pair-early, pair-kept, pair-late, pair-late-first, pair-late-second, pair-done, late-intersect}
 use Rattle.pair_calls.proofs.InWindow.{says-in-window, only-in-window}
-use Rattle.pair_calls.proofs.Intersections.{order, unordered, in-order, ordered-in-window}
+use Rattle.pair_calls.proofs.Intersections.{order, both-told, unordered, in-order, ordered-in-window}
 use Rattle.pair_calls.proofs.intersect.Statement.{statement}
 use Rattle.pair_calls.proofs.intersect.Tie as tie
 
@@ -48,24 +50,18 @@ both c =
     let walked2 = second .before .before in
     let first = walked2 .before .before in
     let walked = first .before .before in (
-      sound-record _ (walked .sound-head .ensures .0) (walked .sound-head .ensures .1) (first .first .given .1),
-      sound-record _ (walked2 .sound-head2 .ensures .0) (walked2 .sound-head2 .ensures .1) (second .second .given .1),
+      found-sound (walked .judged .ensures) (first .first .given .1),
+      found-sound (walked2 .judged2 .ensures) (second .second .given .1),
     )
 
-over-record-requires : tie.Need-over-record-requires
-over-record-requires c κs = search needs
-
-over-record-requires-2 : tie.Need-over-record-requires-2
-over-record-requires-2 c κs = search needs
-
-either-requires : tie.Need-either-requires
-either-requires c κs = search needs
-
-judge-sizes-requires : tie.Need-judge-sizes-requires
-judge-sizes-requires c κs = search needs
-
-enum-known-reason : tie.Need-enum-known-reason
-enum-known-reason c = search needs
+-- whether their rows increase was found with them
+increase : (c : tie.After-both) → c .both .result ≡ (ordered (now (start (c .before) .args .left)) && ordered (now (start (c .before) .args .right)))
+increase c =
+    let second = c .before .before in
+    let walked2 = second .before .before in
+    let first = walked2 .before .before in
+    let walked = first .before .before in
+    both-told _ _ (order-found (walked .judged .ensures) (first .first .given .1)) (order-found (walked2 .judged2 .ensures) (second .second .given .1)) (c .both .ensures)
 
 returns : tie.Need-returns
 unfolding intersectCall
@@ -79,23 +75,8 @@ returns c =
     let a = b .args in
     pair-early intersect (order (now (a .left)) (now (a .right))) (now (a .left)) (now (a .right)) (now (a .result)) (now (a .work)) (or .over-record .ensures) (or2 .over-record2 .ensures) (e .either .ensures) (js .judge-sizes .ensures) (w .reason .given .1)
 
-enum-told : tie.Need-enum-told
-enum-told c = search needs
-
-sound-head-requires : tie.Need-sound-head-requires
-sound-head-requires c κs = search needs
-
-enum-known-first : tie.Need-enum-known-first
-enum-known-first c = search needs
-
-enum-told-2 : tie.Need-enum-told-2
-enum-told-2 c = search needs
-
 refuse-requires : tie.Need-refuse-requires
 refuse-requires c κs = let et = c .before .before .before .before in kept et .work-long
-
-same-length : tie.Need-same-length
-same-length c = search needs
 
 returns-2 : tie.Need-returns-2
 unfolding intersectCall
@@ -106,22 +87,10 @@ returns-2 c =
     let et = sh .before in
     let b = et .before .before .before .before .before .before in
     let a = b .args in
-    pair-late-first intersect (order (now (a .left)) (now (a .right))) (now (a .left)) (now (a .right)) (now (a .result)) (now (a .work)) (kept et) (omega arith, tt) (sh .sound-head .ensures .0) (et2 .enum-told2 .given .1) (r′ .refuse .ensures)
-
-sound-head-requires-2 : tie.Need-sound-head-requires-2
-sound-head-requires-2 c κs = search needs
-
-enum-known-second : tie.Need-enum-known-second
-enum-known-second c = search needs
-
-enum-told-3 : tie.Need-enum-told-3
-enum-told-3 c = search needs
+    pair-late-first intersect (order (now (a .left)) (now (a .right))) (now (a .left)) (now (a .right)) (now (a .result)) (now (a .work)) (kept et) (omega arith, tt) (none-found (sh .judged .ensures) (et2 .enum-told2 .given .1)) refl (r′ .refuse .ensures)
 
 refuse-requires-2 : tie.Need-refuse-requires-2
 refuse-requires-2 c κs = let et = c .before .before .before .before .before .before .before .before in kept et .work-long
-
-same-length-2 : tie.Need-same-length-2
-same-length-2 c = search needs
 
 returns-3 : tie.Need-returns-3
 unfolding intersectCall
@@ -134,16 +103,10 @@ returns-3 c =
     let et = sh .before in
     let b = et .before .before .before .before .before .before in
     let a = b .args in
-    pair-late-second intersect (order (now (a .left)) (now (a .right))) (now (a .left)) (now (a .right)) (now (a .result)) (now (a .work)) (kept et) (omega arith, tt) (sh .sound-head .ensures .0) (sh .sound-head .ensures .1) (f .first .given .1) (sh2 .sound-head2 .ensures .0) (et3 .enum-told3 .given .1) (r2 .refuse2 .ensures)
-
-both-ordered-requires : tie.Need-both-ordered-requires
-both-ordered-requires c κs = both c
+    pair-late-second intersect (order (now (a .left)) (now (a .right))) (now (a .left)) (now (a .right)) (now (a .result)) (now (a .work)) (kept et) (omega arith, tt) (head-found (sh .judged .ensures) (f .first .given .1)) (found-sound (sh .judged .ensures) (f .first .given .1) .readable) refl (none-found (sh2 .judged2 .ensures) (et3 .enum-told3 .given .1)) refl (r2 .refuse2 .ensures)
 
 refuse-requires-3 : tie.Need-refuse-requires-3
 refuse-requires-3 c κs = let kt3 = c .before .before .before in sized kt3 .work-long
-
-same-length-3 : tie.Need-same-length-3
-same-length-3 c = search needs
 
 returns-4 : tie.Need-returns-4
 unfolding intersectCall
@@ -155,13 +118,7 @@ returns-4 c =
     let b = kt3 .before .before .before .before .before .before .before .before .before .before .before .before .before .before in
     let a = b .args in
     let r = both kt3 in
-    pair-late intersect (order (now (a .left)) (now (a .right))) (now (a .left)) (now (a .right)) (now (a .result)) (now (a .work)) (sized kt3) (omega arith, tt) {why = Unordered} (unordered (now (a .left)) (now (a .right)) (bo .both-ordered .ensures) (not-true (bo .both-ordered .result) (i1 .if1 .taken)) (r .0) (r .1)) (r3 .refuse3 .ensures)
-
-sub-load-pair : tie.Need-sub-load-pair
-sub-load-pair c = search needs
-
-part-load-pair-start : tie.Need-part-load-pair-start
-part-load-pair-start c = search needs
+    pair-late intersect (order (now (a .left)) (now (a .right))) (now (a .left)) (now (a .right)) (now (a .result)) (now (a .work)) (sized kt3) (omega arith, tt) {why = Unordered} (unordered (now (a .left)) (now (a .right)) (increase bo) (not-true (bo .both .result) (i1 .if1 .taken)) (r .0) (r .1)) (r3 .refuse3 .ensures)
 
 part-load-pair-end : tie.Need-part-load-pair-end
 part-load-pair-end c = let kt3 = c .before .before in omega (arith, sized kt3 .work-long)
@@ -171,12 +128,6 @@ load-pair-requires c κs =
     let kt3 = c .before .before .before in
     let r = both kt3 in
     ((r .0, r .1), simp length-take (omega (arith, sized kt3 .work-long)))
-
-sub-intersect-in : tie.Need-sub-intersect-in
-sub-intersect-in c = search needs
-
-part-intersect-in-start : tie.Need-part-intersect-in-start
-part-intersect-in-start c = search needs
 
 part-intersect-in-end : tie.Need-part-intersect-in-end
 part-intersect-in-end c = let kt3 = c .before .before .before .before .before in omega (arith, c .work4 .given .1, sized kt3 .work-long)
@@ -190,7 +141,7 @@ intersect-in-requires c κs =
     let kt3 = bo .before in
     let b = kt3 .before .before .before .before .before .before .before .before .before .before .before .before .before .before in
     let a = b .args in
-    ordered-in-window (now (a .left)) (now (a .right)) (bo .both-ordered .ensures) (not-false (bo .both-ordered .result) (i1 .if1 .left)) (now (a .work)) (sized kt3 .work-long) (lp .load-pair .ensures) (w4 .work4 .given .0)
+    ordered-in-window (now (a .left)) (now (a .right)) (increase bo) (not-false (bo .both .result) (i1 .if1 .left)) (now (a .work)) (sized kt3 .work-long) (lp .load-pair .ensures) (w4 .work4 .given .0)
 
 finish-requires : tie.Need-finish-requires
 finish-requires c κs =
@@ -205,9 +156,6 @@ finish-requires c κs =
       (omega (arith, w5 .work5 .given .1, w4 .work4 .given .1, k .work-long), k .result-long),
       says-in-window (now (a .work)) (k .work-long) (lp .load-pair .ensures) (w4 .work4 .given .0) (ii .intersect-in .ensures) .holds,
     )
-
-same-length-4 : tie.Need-same-length-4
-same-length-4 c = search needs
 
 same-length-5 : tie.Need-same-length-5
 same-length-5 c =
@@ -230,7 +178,7 @@ returns-5 c =
     let a = b .args in
     let k = sized kt3 in
     let r = both kt3 in
-    pair-done intersect (order (now (a .left)) (now (a .right))) (now (a .left)) (now (a .right)) (now (a .result)) (now (a .work)) k (r .0) (r .1) (in-order (now (a .left)) (now (a .right)) (bo .both-ordered .ensures) (not-false (bo .both-ordered .result) (i1 .if1 .left))) (late-intersect _ _)
+    pair-done intersect (order (now (a .left)) (now (a .right))) (now (a .left)) (now (a .right)) (now (a .result)) (now (a .work)) k (r .0) (r .1) (in-order (now (a .left)) (now (a .right)) (increase bo) (not-false (bo .both .result) (i1 .if1 .left))) (late-intersect _ _)
     (says-in-window (now (a .work)) (k .work-long) (lp .load-pair .ensures) (w4 .work4 .given .0) (ii .intersect-in .ensures))
     (only-in-window (now (a .work)) (k .work-long) (lp .load-pair .ensures) (w4 .work4 .given .0) (ii .intersect-in .ensures))
     (f .finish .ensures)
@@ -239,38 +187,38 @@ pub intersect-spec : {M : Type 1} → statement M
 intersect-spec =
     tie.close
     (tie.spec
-    over-record-requires
-    over-record-requires-2
-    either-requires
-    judge-sizes-requires
-    enum-known-reason
+    (λ c κs. search needs)  -- over-record-requires
+    (λ c κs. search needs)  -- over-record-requires-2
+    (λ c κs. search needs)  -- either-requires
+    (λ c κs. search needs)  -- judge-sizes-requires
+    (λ c. search needs)  -- enum-known-reason
     returns
-    enum-told
-    sound-head-requires
-    enum-known-first
-    enum-told-2
+    (λ c. search needs)  -- enum-told
+    (λ c κs. search needs)  -- judged-requires
+    (λ c. search needs)  -- enum-known-first
+    (λ c. search needs)  -- enum-told-2
     refuse-requires
-    same-length
+    (λ c. search needs)  -- same-length
     returns-2
-    sound-head-requires-2
-    enum-known-second
-    enum-told-3
+    (λ c κs. search needs)  -- judged-requires-2
+    (λ c. search needs)  -- enum-known-second
+    (λ c. search needs)  -- enum-told-3
     refuse-requires-2
-    same-length-2
+    (λ c. search needs)  -- same-length-2
     returns-3
-    both-ordered-requires
+    (λ c κs. search needs)  -- both-requires
     refuse-requires-3
-    same-length-3
+    (λ c. search needs)  -- same-length-3
     returns-4
-    sub-load-pair
-    part-load-pair-start
+    (λ c. search needs)  -- sub-load-pair
+    (λ c. search needs)  -- part-load-pair-start
     part-load-pair-end
     load-pair-requires
-    sub-intersect-in
-    part-intersect-in-start
+    (λ c. search needs)  -- sub-intersect-in
+    (λ c. search needs)  -- part-intersect-in-start
     part-intersect-in-end
     intersect-in-requires
     finish-requires
-    same-length-4
+    (λ c. search needs)  -- same-length-4
     same-length-5
     returns-5)

@@ -12,11 +12,11 @@ well-formed-spec =
     (λ c. search needs)  -- add-wide
     (λ c κs. search needs)  -- kind-fits-requires
     (λ c. search (needs, forms))  -- returns
-    (λ c κs. search (needs, rooms, forms))  -- rows-fit-requires
-    (λ c. search (needs, forms))  -- returns-2
     (λ c κs. search (needs, rooms))  -- axes-fit-requires
-    (λ c. search (needs, forms))  -- returns-3
+    (λ c. search (needs, forms))  -- returns-2
     (λ c κs. search (needs, rooms))  -- is-increasing-requires
-    (λ c. search (needs, forms))  -- returns-4
+    (λ c. search (needs, forms))  -- returns-3
     (λ c κs. search (needs, rooms))  -- is-increasing-requires-2
+    (λ c. search (needs, forms))  -- returns-4
+    (λ c κs. search (needs, rooms, forms))  -- rows-fit-requires
     (λ c. search (needs, forms)))  -- returns-5
