@@ -12,7 +12,7 @@ use Rattle.rules.specs.declared.Ordering.{Ordering}
 use Rattle.rules.specs.declared.Ordering.the-variants.{Less, Equal, Greater}
 use Rattle.rules.specs.Buffers.{part, put}
 use Rattle.rules.specs.Lists.{any, keep}
-use Rattle.rules.specs.RowsInOrder.{byFirst, cmpRows, among, In, Each, Increasing}
+use Rattle.rules.specs.RowsInOrder.{byFirst, cmpRows, among, Each, Increasing}
 use Rattle.rules.specs.Dependencies.{indexOf, held, filterDeps}
 use Rattle.rules.proofs.Order.{cmp-equal, cmp-greater-flip, cmp-less-trans, less-not-equal, less-not-greater, greater-not-equal, less-not-same, Compared, less, equal, greater, compare}
 use Rattle.rules.proofs.Sets.{in-among, head-least, next-increasing, not-in-among, each-cons}
@@ -25,9 +25,9 @@ use Rattle.tables.proofs.Rows.{front-row, length-rows, rows-none, rows-head}
 use Rattle.tables.proofs.Tables.{table-length, table-wide}
 use Rattle.tables.proofs.Made.{made-ready}
 use Rattle.tables.proofs.CommonWalk.{keep-same, among-below}
-use Rattle.tables.proofs.Walking.{left-rest, Movable, Pair, Walk, begin, first-row, second-row, first-moves, pass, move, counted}
+use Rattle.tables.proofs.Walking.{left-rest, Movable, Walk, begin, first-row, second-row, first-moves, pass, move, counted}
 use Rattle.records.proofs.Naturals.{has-front}
-use Rattle.parts.specs.Parts.{rowsFrom, kindAt, denseAt, rankAt, widthAt, layoutAt}
+use Rattle.parts.specs.Parts.{kindAt, denseAt, rankAt, widthAt, layoutAt}
 use Rattle.filtering.specs.Filtering.{filterAt, KeepAsked, Kept}
 use Rattle.filtering.proofs.Keeping.{narrow, room, entries, apart, entries-apart}
 

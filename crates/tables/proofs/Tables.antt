@@ -13,7 +13,7 @@ use Rattle.rules.specs.RowsInOrder.{Each}
 use Rattle.rules.proofs.Buffers.{length-part, part-part, part-put-all}
 use Rattle.cells.specs.View.{view}
 use Rattle.cells.proofs.View.{stored-number}
-use Rattle.tables.specs.Rows.{rowAt, rowsAt, HasRows}
+use Rattle.tables.specs.Rows.{rowsAt, HasRows}
 use Rattle.tables.specs.Tables.{tableAt, Fits}
 use Rattle.tables.proofs.Rows.{length-rows, row-number, row-put, rows-part, rows-wide}
 use Rattle.tables.proofs.Only.{only-set, rows-outside}

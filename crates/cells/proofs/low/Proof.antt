@@ -6,7 +6,6 @@ use lib.IntN.{ℤ, pos}
 use lib.ListN.{getD}
 use lib.Signed.{ltZ}
 use denote.Ref.{now}
-use Rattle.cells.specs.View.{code, view}
 use Rattle.cells.proofs.Signed.{held, low-held, natural-casts, natural-is, natural-code}
 use Rattle.cells.proofs.View.{view-getD}
 use borrow.Author.Needs.{needs}
