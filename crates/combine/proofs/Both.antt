@@ -7,6 +7,7 @@ use Prim.Native.Nat.{ℕ, _+_, _-_, _≤_}
 use native.Mathlib.Omega.{arith}
 use lib.IntN.{ℤ}
 use lib.ListN.{length}
+use Rattle.rules.specs.RowsInOrder.{Increasing}
 use Rattle.rules.specs.Pairs.{lowered}
 use Rattle.rules.proofs.Same.{true-not-false, same-true}
 use Rattle.tables.specs.Tables.{Only, Ready, Listed}
@@ -14,7 +15,7 @@ use Rattle.tables.proofs.Only.{only-then, only-wider, table-outside, ready-outs
 use Rattle.parts.specs.Parts.{rowsFrom, windowSize, left, right, target, spare, otherSpare, denseAt, rankAt, layoutAt, Window}
 use Rattle.parts.proofs.Holds.{rank-most, rank-is, dense-most}
 use Rattle.lowering.specs.Lowering.{LowerAsked}
-use Rattle.combine.specs.Window.{BothAsked, BothLowered}
+use Rattle.combine.specs.Window.{BothAsked, Rising, BothLowered}
 use Rattle.combine.proofs.Ways.{way-told, Free, both-free}
 use Rattle.combine.proofs.Rooms.{first-same, second-same, second-rank, window-still}
 
@@ -106,6 +107,10 @@ module _ {d : ℕ} {s : List ℤ} (q : BothAsked d s) where
 
     pub ask-second : LowerAsked right (otherSpare + rowsFrom) d t
     ask-second = ask-other (both-still q first-wide)
+
+    -- those of the second increase as they did
+    pub second-rising : Rising s → Increasing (layoutAt right t .rows)
+    second-rising h = rw (second-same (window q) first-wide) (h .second)
 
     -- those of both
     module _ (f : r ≡ true) {u : List ℤ} {v : Bool} (p′ : Listed (otherSpare + rowsFrom) (rankAt right t - d) (lowered (layoutAt right t) d .rows) t u v) where

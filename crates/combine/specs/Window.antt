@@ -11,7 +11,7 @@ use Rattle.rules.specs.declared.Refusal.the-variants.{MadeTooLarge}
 use Rattle.rules.specs.Limits.{entryLimit}
 use Rattle.rules.specs.Lists.{if, same}
 use Rattle.rules.specs.Buffers.{part}
-use Rattle.rules.specs.RowsInOrder.{sorted, merge}
+use Rattle.rules.specs.RowsInOrder.{sorted, merge, Increasing}
 use Rattle.rules.specs.Refusals.{Verdict}
 use Rattle.rules.specs.Layout.{Layout, isDense, few}
 use Rattle.rules.specs.Removal.{listsRow}
@@ -64,6 +64,11 @@ pub record BothAsked (d : ℕ) (s : List ℤ) : Type 0 where
   pub lower : d ≡ lowerD (layoutAt left s) (layoutAt right s)
   pub expand : (barsExpansion (layoutAt left s) || barsExpansion (layoutAt right s)) ≡ false
   pub list-none : (listsRow (layoutAt left s) d || listsRow (layoutAt right s) d) ≡ false
+
+-- the rows of both increase
+pub record Rising (s : List ℤ) : Type 0 where
+  pub first : Increasing (layoutAt left s .rows)
+  pub second : Increasing (layoutAt right s .rows)
 
 -- ---- what is made
 

@@ -1,13 +1,13 @@
 // Two layouts of one shape in a window of parts, and what is made of them in the target: what every rule for two layouts shares.
 ghost use mathlib.Core.Path.{_≡_};
-ghost use mathlib.Core.Bool.{_||_};
+ghost use mathlib.Core.Bool.{true, _||_};
 ghost use mathlib.Core.List.{[]};
 ghost use Rattle.rules.specs.Lists.{same};
 ghost use Rattle.rules.specs.Layout.{isDense};
 ghost use Rattle.rules.specs.Removal.{listsRow};
 ghost use Rattle.rules.specs.Pairs.{lowerD, barsExpansion, alikeDiagonals};
 ghost use Rattle.parts.specs.Parts.{left, right, layoutAt, Holds, Window};
-ghost use Rattle.combine.specs.Window.{wayOf, HeadAsked, DepsAsked, BareAsked, CompleteAsked, HeadMade, DepsMade, mergedStates, mergedInputs, shaped, Completed, Made, madeStep, BothAsked, BothLowered};
+ghost use Rattle.combine.specs.Window.{wayOf, HeadAsked, DepsAsked, BareAsked, CompleteAsked, HeadMade, DepsMade, mergedStates, mergedInputs, shaped, Completed, Made, madeStep, BothAsked, Rising, BothLowered};
 use parts::DENSE;
 use parts::EXTENTS;
 use parts::INPUTS;
@@ -184,13 +184,15 @@ pub fn either_lists(window: &[i32], d: usize) -> bool
     lists_row(window, RIGHT, d)
 }
 
-// The rows of both layouts, with D lowered to d and in order, become tables in the spare room; false where one has too many.
-pub fn lower_both(window: &mut [i32], d: usize) -> bool
+// The rows of both layouts, with D lowered to d and in order, become tables in the spare room; false where one has too many. Whether those
+// of both are known to increase is told.
+pub fn lower_both(window: &mut [i32], d: usize, rising: bool) -> bool
     requires { ⌜ BothAsked d (now window) ⌝ }
+    requires { ⌜ (rising ≡ true → Rising (now window)) ⌝ }
     ensures { λ r. ⌜ BothLowered d (now (window .entry)) (now (window .exit)) r ⌝ }
 {
-    if lowering::lower_into(window, LEFT, d, SPARE_ROWS) {
-        return lowering::lower_into(window, RIGHT, d, OTHER_SPARE_ROWS);
+    if lowering::lower_into(window, LEFT, d, SPARE_ROWS, rising) {
+        return lowering::lower_into(window, RIGHT, d, OTHER_SPARE_ROWS, rising);
     }
     false
 }

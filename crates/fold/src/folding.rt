@@ -84,7 +84,7 @@ fn combine_in(rule: Rule, window: &mut [i32]) -> Step
     ensures { λ r. ⌜ Combined (combine rule) (now (window .entry)) (now (window .exit)) r ⌝ }
 {
     match rule {
-        Rule::Unite => combine::union_in(window),
+        Rule::Unite => combine::union_in(window, true),
         Rule::Multiply => intersecting::intersect_in(window),
         Rule::Divide => intersecting::intersect_in(window),
     }

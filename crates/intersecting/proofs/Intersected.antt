@@ -20,7 +20,8 @@ use Rattle.rules.proofs.Made.{fewOr}
 use Rattle.parts.specs.Parts.{left, right, denseAt, layoutAt}
 use Rattle.combine.specs.declared.window.Way.{Way}
 use Rattle.combine.specs.declared.window.Way.the-variants.{Dense, Diagonals, Rows}
-use Rattle.combine.specs.Window.{wayOf, RowsAsked, BothAsked, mergedStates, mergedInputs, shaped, madeStep, Made, Combined}
+use Rattle.rules.proofs.Sets.{increasing-true}
+use Rattle.combine.specs.Window.{wayOf, RowsAsked, BothAsked, Rising, mergedStates, mergedInputs, shaped, madeStep, Made, Combined}
 use Rattle.combine.proofs.Ways.{Told, told-diagonals, told-rows, way-told}
 use Rattle.combine.proofs.Combining.{combine-refused, combine-told, shapes-same, diagonals-combined}
 use Rattle.intersecting.specs.Intersecting.{OrderedWindow, depends, DenseAsked, commonOf, fewCommon, CommonLaid}
@@ -93,6 +94,10 @@ module _ {s : List ℤ} (q : RowsAsked s) where
 -- ---- `intersect_in`
 
 module _ {s : List ℤ} (q : OrderedWindow s) where
+  -- the rows of both increase
+  pub rising : Rising s
+  rising = record { first = increasing-true (layoutAt left s .rows) (q .left-ordered); second = increasing-true (layoutAt right s .rows) (q .right-ordered) }
+
   abbrev x : Layout
   x = layoutAt left s
 

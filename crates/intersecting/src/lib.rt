@@ -4,7 +4,7 @@ mod filter; // filter.rt: the dependencies of both, lowered, merged, and filtere
 ghost use mathlib.Core.Path.{_≡_};
 ghost use Rattle.rules.specs.Intersect.{intersect};
 ghost use Rattle.parts.specs.Parts.{left, layoutAt, Window};
-ghost use Rattle.combine.specs.Window.{RowsAsked, BothAsked, Combined};
+ghost use Rattle.combine.specs.Window.{RowsAsked, BothAsked, Rising, Combined};
 ghost use Rattle.intersecting.specs.Intersecting.{OrderedWindow, otherOf, DenseAsked, CommonMade, FillAsked, FilledUp, CommonLaid};
 use combine::LEFT_DENSE;
 use combine::LEFT_RANK;
@@ -54,9 +54,10 @@ fn with_dense(window: &mut [i32]) -> Step
 // The rows that both layouts have, with D lowered to d, stand in the target behind a head; false where one has too many rows.
 fn common_rows(window: &mut [i32], d: usize) -> bool
     requires { ⌜ BothAsked d (now window) ⌝ }
+    requires { ⌜ Rising (now window) ⌝ }
     ensures { λ r. ⌜ CommonMade d (now (window .entry)) (now (window .exit)) r ⌝ }
 {
-    if combine::lower_both(window, d) {
+    if combine::lower_both(window, d, true) {
         let w = cells::get(window, LEFT_RANK) - d;
         tables::common_into(window, SPARE_ROWS, OTHER_SPARE_ROWS, TARGET_ROWS, w);
         combine::write_head(window, 2, d);
@@ -83,6 +84,7 @@ fn fill_up(window: &mut [i32])
 // too long.
 fn common_layout(window: &mut [i32], d: usize) -> bool
     requires { ⌜ BothAsked d (now window) ⌝ }
+    requires { ⌜ Rising (now window) ⌝ }
     ensures { λ r. ⌜ CommonLaid d (now (window .entry)) (now (window .exit)) r ⌝ }
 {
     if !common_rows(window, d) {
@@ -99,6 +101,7 @@ fn common_layout(window: &mut [i32], d: usize) -> bool
 // listed while dense axes are left.
 fn intersect_rows(window: &mut [i32]) -> Step
     requires { ⌜ RowsAsked (now window) ⌝ }
+    requires { ⌜ Rising (now window) ⌝ }
     ensures { λ r. ⌜ Combined intersect (now (window .entry)) (now (window .exit)) r ⌝ }
 {
     if combine::either_bars(window) {

@@ -1,5 +1,5 @@
 -- `lower_into`: which rows it lists, by the kind and the D of the layout. Assumes nothing.
-use mathlib.Core.Path.{_≡_, refl, sym, _∙_}
+use mathlib.Core.Path.{_≡_, refl, sym, _∙_, subst}
 use mathlib.Core.Bool.{Bool, true}
 use mathlib.Core.List.{List, [], _∷_, append-nil}
 use mathlib.Core.Logic.{inl, inr, ⊎-elim}
@@ -11,7 +11,7 @@ use lib.IntN.{ℤ, pos}
 use lib.ListN.{length, getD, set, drop}
 use lib.Seq.{take-all, drop-nil}
 use Rattle.rules.specs.Lists.{gather}
-use Rattle.rules.specs.RowsInOrder.{sorted, Each}
+use Rattle.rules.specs.RowsInOrder.{sorted, Increasing, Each}
 use Rattle.rules.specs.Layout.{Layout}
 use Rattle.rules.specs.Removal.{positions, crossed, fullRows}
 use Rattle.rules.specs.Pairs.{lowered}
@@ -106,9 +106,17 @@ module _ {at to d : ℕ} {s : List ℤ} (a : LowerAsked at to d s) where
   -- ---- a sparse layout with that D
 
   module _ {w : ℕ} (r : w ≡ rankAt at s) (n : kindAt at s ≡ 1 → ⊥) (same : denseAt at s ≡ d) where
+    own-table : l .rows ≡ tableAt (at + 7) (w - d) s
+    unfolding layoutAt
+    own-table = rw (same, r)
+
     own-rows : lowered l d .rows ≡ tableAt (at + 7) (w - d) s
     unfolding layoutAt
-    own-rows = same-made l (sparse n) same ∙ rw (same, r)
+    own-rows = same-made l (sparse n) same ∙ own-table
+
+    -- they increase as the layout's do
+    pub own-rising : Increasing (l .rows) → Increasing (tableAt (at + 7) (w - d) s)
+    own-rising h = subst Increasing own-table h
 
     pub ask-sort : SortAsked (at + 7) to (w - d) s
     ask-sort =

@@ -11,7 +11,7 @@ use lib.IntN.{ℤ, pos}
 use lib.ListN.{length, set, take, drop}
 use lib.Seq.{take-take}
 use Rattle.rules.specs.Lists.{gather}
-use Rattle.rules.specs.RowsInOrder.{sorted, sortedFew, Each}
+use Rattle.rules.specs.RowsInOrder.{sorted, sortedFew, Increasing, Each}
 use Rattle.rules.specs.Layout.{Layout, isDiagonal, few}
 use Rattle.rules.specs.Dependencies.{onIndex}
 use Rattle.rules.specs.Removal.{positions, removedDeps, removeDenseAxes}
@@ -165,6 +165,9 @@ module _ {at d from to : ℕ} {s : List ℤ} (a : DepsAsked at d from to s) wher
             target = omega (arith, a .room);
             apart = ⊎-elim (λ x. inl (omega arith)) (λ x. inr (omega arith)) (a .deps-apart);
           }
+
+      pub copy-rising : Increasing (tableAt from (n + 1) s)
+      copy-rising = rw n-is (a .deps .increasing)
 
       pub copied-listed : {t : List ℤ} → Sorted from to (n + 1) s t → Listed to (rankAt at s + 1) (loweredDeps l d deps) s t true
       copied-listed {t} p =

@@ -1,7 +1,9 @@
 // The rows and the dependencies of a layout in a part of the working slice, with a smaller D, put in order into a table of the slice.
 ghost use mathlib.Core.Path.{_≡_};
+ghost use mathlib.Core.Bool.{true};
 ghost use Prim.Native.Nat.{_+_, _-_};
 ghost use Rattle.rules.specs.Lists.{product as productOf};
+ghost use Rattle.rules.specs.RowsInOrder.{Increasing};
 ghost use Rattle.rules.specs.Pairs.{lowered};
 ghost use Rattle.tables.specs.Rows.{rowAt};
 ghost use Rattle.tables.specs.Tables.{tableAt, Taken, Listed};
@@ -97,9 +99,11 @@ pub fn list_diagonal(s: &mut [i32], to: usize, w: usize, extent: usize) -> bool
     true
 }
 
-// The rows of the layout at a place, with its D lowered to d, become a table, in order; false where they are too many.
-pub fn lower_into(s: &mut [i32], at: usize, d: usize, to: usize) -> bool
+// The rows of the layout at a place, with its D lowered to d, become a table, in order; false where they are too many. Whether they are
+// known to increase is told, so that it is not asked again.
+pub fn lower_into(s: &mut [i32], at: usize, d: usize, to: usize, rising: bool) -> bool
     requires { ⌜ LowerAsked at to d (now s) ⌝ }
+    requires { ⌜ (rising ≡ true → Increasing (layoutAt at (now s) .rows)) ⌝ }
     ensures { λ r. ⌜ Listed to (rankAt at (now (s .entry)) - d) (lowered (layoutAt at (now (s .entry))) d .rows) (now (s .entry)) (now (s .exit)) r ⌝ }
 {
     let rank = cells::get(s, at + parts::RANK);
@@ -110,6 +114,10 @@ pub fn lower_into(s: &mut [i32], at: usize, d: usize, to: usize) -> bool
     }
     let dense = cells::get(s, at + parts::DENSE);
     if dense == d {
+        if rising {
+            tables::move_table(s, at + parts::ROWS, to, rank - d);
+            return true;
+        }
         tables::sort_into(s, at + parts::ROWS, to, rank - d);
         return true;
     }
@@ -162,6 +170,6 @@ pub fn lower_deps_into(s: &mut [i32], at: usize, d: usize, from: usize, to: usiz
             rank + 1,
         );
     }
-    tables::sort_into(s, from, to, rank + 1);
+    tables::move_table(s, from, to, rank + 1);
     true
 }

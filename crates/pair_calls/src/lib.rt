@@ -14,27 +14,7 @@ ghost use Rattle.rules.specs.Intersect.{intersectCall};
 use judging::Sizes;
 use records::Finding;
 use rules::Refusal;
-use rules::Walk;
 use rules::Written;
-
-// The union of two records goes to the result.
-pub fn union(left: &[i32], right: &[i32], result: &mut [i32], work: &mut [i32]) -> Written
-    ensures { λ r. ⌜ Ends (inForm encode (unionCall (now (left .entry)) (now (right .entry)) (length (now (result .entry))) (length (now (work .entry))))) (now (result .entry)) (now (work .entry)) r (now (result .exit)) (now (work .exit)) ⌝ }
-{
-    let over = judging::either(records::over_record(left), records::over_record(right));
-    if let Sizes::Refused(why) = judging::judge_sizes(over, result.len(), work.len()) {
-        return Written::Refused(why);
-    }
-    let Walk::To(first) = records::sound_head(left) else {
-        return parts::refuse(Refusal::Unsound, work);
-    };
-    let Walk::To(second) = records::sound_head(right) else {
-        return parts::refuse(Refusal::Unsound, work);
-    };
-    parts::load_pair(left, first, right, second, &mut work[0..parts::WINDOW]);
-    let step = combine::union_in(&mut work[0..parts::WINDOW]);
-    parts::finish(step, work, parts::TARGET, result)
-}
 
 // Whether both of two tests hold.
 fn both(a: bool, b: bool) -> bool
@@ -44,6 +24,26 @@ fn both(a: bool, b: bool) -> bool
         return b;
     }
     false
+}
+
+// The union of two records goes to the result.
+pub fn union(left: &[i32], right: &[i32], result: &mut [i32], work: &mut [i32]) -> Written
+    ensures { λ r. ⌜ Ends (inForm encode (unionCall (now (left .entry)) (now (right .entry)) (length (now (result .entry))) (length (now (work .entry))))) (now (result .entry)) (now (work .entry)) r (now (result .exit)) (now (work .exit)) ⌝ }
+{
+    let over = judging::either(records::over_record(left), records::over_record(right));
+    if let Sizes::Refused(why) = judging::judge_sizes(over, result.len(), work.len()) {
+        return Written::Refused(why);
+    }
+    let Finding::Sound(first, left_ordered) = records::judged(left) else {
+        return parts::refuse(Refusal::Unsound, work);
+    };
+    let Finding::Sound(second, right_ordered) = records::judged(right) else {
+        return parts::refuse(Refusal::Unsound, work);
+    };
+    let rising = both(left_ordered, right_ordered);
+    parts::load_pair(left, first, right, second, &mut work[0..parts::WINDOW]);
+    let step = combine::union_in(&mut work[0..parts::WINDOW], rising);
+    parts::finish(step, work, parts::TARGET, result)
 }
 
 // The intersection of two ordered records goes to the result.

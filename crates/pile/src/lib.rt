@@ -53,7 +53,7 @@ fn unite(work: &mut [i32]) -> Step
     requires { ⌜ Window (now work) × (workSize ≤ length (now work)) ⌝ }
     ensures { λ r. ⌜ United (now (work .entry)) (now (work .exit)) r ⌝ }
 {
-    match combine::union_in(&mut work[0..parts::WINDOW]) {
+    match combine::union_in(&mut work[0..parts::WINDOW], false) {
         Step::Done => {
             cells::move_part(work, parts::TARGET, SIXTH, parts::PART);
             Step::Done

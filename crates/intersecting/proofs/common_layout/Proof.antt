@@ -5,17 +5,11 @@ use borrow.Author.Needs.{needs}
 use Rattle.intersecting.proofs.common_layout.Statement.{statement}
 use Rattle.intersecting.proofs.common_layout.Tie as tie
 
-common-rows-requires : tie.Need-common-rows-requires
-common-rows-requires c κs = search needs
-
-same-length : tie.Need-same-length
-same-length c = search needs
-
 returns : tie.Need-returns
 returns c =
     let cr = c .before .before in
     let b = cr .before .before in
-    rows-stop (b .pre) (cr .common-rows .ensures) (not-true (cr .common-rows .result) (c .if1 .taken))
+    rows-stop (b .pre .0) (cr .common-rows .ensures) (not-true (cr .common-rows .result) (c .if1 .taken))
 
 merge-held-requires : tie.Need-merge-held-requires
 merge-held-requires c κs =
@@ -23,16 +17,13 @@ merge-held-requires c κs =
     let cr = i1 .before .before in
     cr .common-rows .ensures .asked (not-false (cr .common-rows .result) (i1 .if1 .left))
 
-same-length-2 : tie.Need-same-length-2
-same-length-2 c = search needs
-
 returns-2 : tie.Need-returns-2
 returns-2 c =
     let mh = c .before .before in
     let i1 = mh .before .before in
     let cr = i1 .before .before in
     let b = cr .before .before in
-    deps-stop (b .pre) (cr .common-rows .ensures) (not-false (cr .common-rows .result) (i1 .if1 .left)) (mh .merge-held .ensures) (not-true (mh .merge-held .result) (c .if2 .taken))
+    deps-stop (b .pre .0) (cr .common-rows .ensures) (not-false (cr .common-rows .result) (i1 .if1 .left)) (mh .merge-held .ensures) (not-true (mh .merge-held .result) (c .if2 .taken))
 
 fill-up-requires : tie.Need-fill-up-requires
 fill-up-requires c κs =
@@ -41,10 +32,7 @@ fill-up-requires c κs =
     let i1 = mh .before .before in
     let cr = i1 .before .before in
     let b = cr .before .before in
-    ask-fill (b .pre) (cr .common-rows .ensures) (not-false (cr .common-rows .result) (i1 .if1 .left)) (mh .merge-held .ensures) (not-false (mh .merge-held .result) (i2 .if2 .left))
-
-same-length-3 : tie.Need-same-length-3
-same-length-3 c = search needs
+    ask-fill (b .pre .0) (cr .common-rows .ensures) (not-false (cr .common-rows .result) (i1 .if1 .left)) (mh .merge-held .ensures) (not-false (mh .merge-held .result) (i2 .if2 .left))
 
 returns-3 : tie.Need-returns-3
 returns-3 c =
@@ -54,18 +42,18 @@ returns-3 c =
     let i1 = mh .before .before in
     let cr = i1 .before .before in
     let b = cr .before .before in
-    laid (b .pre) (cr .common-rows .ensures) (not-false (cr .common-rows .result) (i1 .if1 .left)) (mh .merge-held .ensures) (not-false (mh .merge-held .result) (i2 .if2 .left)) (fu .fill-up .ensures)
+    laid (b .pre .0) (cr .common-rows .ensures) (not-false (cr .common-rows .result) (i1 .if1 .left)) (mh .merge-held .ensures) (not-false (mh .merge-held .result) (i2 .if2 .left)) (fu .fill-up .ensures)
 
 pub common-layout-spec : {M : Type 1} → statement M
 common-layout-spec =
     tie.close
     (tie.spec
-    common-rows-requires
-    same-length
+    (λ c κs. search needs)  -- common-rows-requires
+    (λ c. search needs)  -- same-length
     returns
     merge-held-requires
-    same-length-2
+    (λ c. search needs)  -- same-length-2
     returns-2
     fill-up-requires
-    same-length-3
+    (λ c. search needs)  -- same-length-3
     returns-3)

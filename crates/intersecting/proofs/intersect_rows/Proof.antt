@@ -4,26 +4,11 @@ use borrow.Author.Needs.{needs}
 use Rattle.intersecting.proofs.intersect_rows.Statement.{statement}
 use Rattle.intersecting.proofs.intersect_rows.Tie as tie
 
-either-bars-requires : tie.Need-either-bars-requires
-either-bars-requires c κs = search needs
-
-same-length : tie.Need-same-length
-same-length c = search needs
-
 returns : tie.Need-returns
 returns c =
     let eb = c .before in
     let b = eb .before .before in
-    barred (b .pre) (eb .either-bars .ensures) (c .if1 .taken)
-
-lower-dense-requires : tie.Need-lower-dense-requires
-lower-dense-requires c κs = search needs
-
-bars-common-requires : tie.Need-bars-common-requires
-bars-common-requires c κs = search needs
-
-same-length-2 : tie.Need-same-length-2
-same-length-2 c = search needs
+    barred (b .pre .0) (eb .either-bars .ensures) (c .if1 .taken)
 
 returns-2 : tie.Need-returns-2
 returns-2 c =
@@ -32,13 +17,7 @@ returns-2 c =
     let i1 = ld .before .before in
     let eb = i1 .before in
     let b = eb .before .before in
-    meeting (b .pre) (eb .either-bars .ensures) (i1 .if1 .left) (ld .lower-dense .ensures) (bc .bars-common .ensures) (c .if2 .taken)
-
-either-lists-requires : tie.Need-either-lists-requires
-either-lists-requires c κs = search needs
-
-same-length-3 : tie.Need-same-length-3
-same-length-3 c = search needs
+    meeting (b .pre .0) (eb .either-bars .ensures) (i1 .if1 .left) (ld .lower-dense .ensures) (bc .bars-common .ensures) (c .if2 .taken)
 
 returns-3 : tie.Need-returns-3
 returns-3 c =
@@ -49,7 +28,7 @@ returns-3 c =
     let i1 = ld .before .before in
     let eb = i1 .before in
     let b = eb .before .before in
-    listing (b .pre) (eb .either-bars .ensures) (i1 .if1 .left) (ld .lower-dense .ensures) (bc .bars-common .ensures) (i2 .if2 .left) (el .either-lists .ensures) (c .if3 .taken)
+    listing (b .pre .0) (eb .either-bars .ensures) (i1 .if1 .left) (ld .lower-dense .ensures) (bc .bars-common .ensures) (i2 .if2 .left) (el .either-lists .ensures) (c .if3 .taken)
 
 common-layout-requires : tie.Need-common-layout-requires
 common-layout-requires c κs =
@@ -61,13 +40,7 @@ common-layout-requires c κs =
     let i1 = ld .before .before in
     let eb = i1 .before in
     let b = eb .before .before in
-    ask-common (b .pre) (eb .either-bars .ensures) (i1 .if1 .left) (ld .lower-dense .ensures) (bc .bars-common .ensures) (i2 .if2 .left) (el .either-lists .ensures) (i3 .if3 .left)
-
-made-requires : tie.Need-made-requires
-made-requires c κs = search needs
-
-same-length-4 : tie.Need-same-length-4
-same-length-4 c = search needs
+    (ask-common (b .pre .0) (eb .either-bars .ensures) (i1 .if1 .left) (ld .lower-dense .ensures) (bc .bars-common .ensures) (i2 .if2 .left) (el .either-lists .ensures) (i3 .if3 .left), b .pre .1)
 
 returns-4 : tie.Need-returns-4
 returns-4 c =
@@ -80,23 +53,23 @@ returns-4 c =
     let i1 = ld .before .before in
     let eb = i1 .before in
     let b = eb .before .before in
-    common-laid (b .pre) (eb .either-bars .ensures) (i1 .if1 .left) (ld .lower-dense .ensures) (bc .bars-common .ensures) (i2 .if2 .left) (el .either-lists .ensures) (i3 .if3 .left) (cl .common-layout .ensures) (c .made .ensures)
+    common-laid (b .pre .0) (eb .either-bars .ensures) (i1 .if1 .left) (ld .lower-dense .ensures) (bc .bars-common .ensures) (i2 .if2 .left) (el .either-lists .ensures) (i3 .if3 .left) (cl .common-layout .ensures) (c .made .ensures)
 
 pub intersect-rows-spec : {M : Type 1} → statement M
 intersect-rows-spec =
     tie.close
     (tie.spec
-    either-bars-requires
-    same-length
+    (λ c κs. search needs)  -- either-bars-requires
+    (λ c. search needs)  -- same-length
     returns
-    lower-dense-requires
-    bars-common-requires
-    same-length-2
+    (λ c κs. search needs)  -- lower-dense-requires
+    (λ c κs. search needs)  -- bars-common-requires
+    (λ c. search needs)  -- same-length-2
     returns-2
-    either-lists-requires
-    same-length-3
+    (λ c κs. search needs)  -- either-lists-requires
+    (λ c. search needs)  -- same-length-3
     returns-3
     common-layout-requires
-    made-requires
-    same-length-4
+    (λ c κs. search needs)  -- made-requires
+    (λ c. search needs)  -- same-length-4
     returns-4)

@@ -1,17 +1,21 @@
 -- `union`: what is judged, both records loaded and united in a window that is lent twice, and the end of the call.
-use mathlib.Core.Bool.{_||_}
+use mathlib.Core.Path.{_≡_, refl}
+use mathlib.Core.Bool.{_&&_, _||_}
 use mathlib.Core.List.{[]}
 use native.Mathlib.Omega.{arith}
 use borrow.Author.Needs.{needs}
 use denote.Ref.{now}
 use lib.ListN.{length, length-take}
+use Rattle.rules.specs.Record.{ordered}
 use Rattle.rules.specs.Arguments.{overRecord}
 use Rattle.rules.specs.Union.{union, unionCall}
 use Rattle.records.specs.Sound.{SoundRecord}
-use Rattle.records.proofs.SoundRecords.{sound-record}
+use Rattle.records.proofs.SoundRecords.{none-found, head-found, found-sound, order-found}
 use Rattle.judging.specs.LentSizes.{SizesKept}
 use Rattle.judging.proofs.PairCalls.{pair-early, pair-kept, pair-late-first, pair-late-second, pair-done, late-union}
 use Rattle.judging.proofs.Endings.{nothing-more}
+use Rattle.intersecting.proofs.Intersected.{rising}
+use Rattle.pair_calls.proofs.Intersections.{both-told, ordered-in-window}
 use Rattle.pair_calls.proofs.InWindow.{asked-in-window, says-in-window, only-in-window}
 use Rattle.pair_calls.proofs.union.Statement.{statement}
 use Rattle.pair_calls.proofs.union.Tie as tie
@@ -47,24 +51,18 @@ both c =
     let walked2 = second .before .before in
     let first = walked2 .before .before in
     let walked = first .before .before in (
-      sound-record _ (walked .sound-head .ensures .0) (walked .sound-head .ensures .1) (first .first .given .1),
-      sound-record _ (walked2 .sound-head2 .ensures .0) (walked2 .sound-head2 .ensures .1) (second .second .given .1),
+      found-sound (walked .judged .ensures) (first .first .given .1),
+      found-sound (walked2 .judged2 .ensures) (second .second .given .1),
     )
 
-over-record-requires : tie.Need-over-record-requires
-over-record-requires c κs = search needs
-
-over-record-requires-2 : tie.Need-over-record-requires-2
-over-record-requires-2 c κs = search needs
-
-either-requires : tie.Need-either-requires
-either-requires c κs = search needs
-
-judge-sizes-requires : tie.Need-judge-sizes-requires
-judge-sizes-requires c κs = search needs
-
-enum-known-why : tie.Need-enum-known-why
-enum-known-why c = search needs
+-- whether their rows increase was found with them
+increase : (c : tie.After-both) → c .both .result ≡ (ordered (now (start (c .before) .args .left)) && ordered (now (start (c .before) .args .right)))
+increase c =
+    let second = c .before .before in
+    let walked2 = second .before .before in
+    let first = walked2 .before .before in
+    let walked = first .before .before in
+    both-told _ _ (order-found (walked .judged .ensures) (first .first .given .1)) (order-found (walked2 .judged2 .ensures) (second .second .given .1)) (c .both .ensures)
 
 returns : tie.Need-returns
 unfolding unionCall
@@ -76,23 +74,8 @@ returns c =
     let a = first .before .args in
     pair-early union [] (now (a .left)) (now (a .right)) (now (a .result)) (now (a .work)) (first .over-record .ensures) (second .over-record2 .ensures) (over .either .ensures) (judged .judge-sizes .ensures) (c .before .why .given .1)
 
-enum-told : tie.Need-enum-told
-enum-told c = search needs
-
-sound-head-requires : tie.Need-sound-head-requires
-sound-head-requires c κs = search needs
-
-enum-known-first : tie.Need-enum-known-first
-enum-known-first c = search needs
-
-enum-told-2 : tie.Need-enum-told-2
-enum-told-2 c = search needs
-
 refuse-requires : tie.Need-refuse-requires
 refuse-requires c κs = kept (c .before .before .before .before) .work-long
-
-same-length : tie.Need-same-length
-same-length c = search needs
 
 returns-2 : tie.Need-returns-2
 unfolding unionCall
@@ -101,22 +84,10 @@ returns-2 c =
     let told = refused .before .before in
     let walked = told .before .before in
     let a = startOf (walked .before) .args in
-    pair-late-first union [] (now (a .left)) (now (a .right)) (now (a .result)) (now (a .work)) (kept (walked .before)) tt (walked .sound-head .ensures .0) (told .enum-told2 .given .1) (refused .refuse .ensures)
-
-sound-head-requires-2 : tie.Need-sound-head-requires-2
-sound-head-requires-2 c κs = search needs
-
-enum-known-second : tie.Need-enum-known-second
-enum-known-second c = search needs
-
-enum-told-3 : tie.Need-enum-told-3
-enum-told-3 c = search needs
+    pair-late-first union [] (now (a .left)) (now (a .right)) (now (a .result)) (now (a .work)) (kept (walked .before)) tt (none-found (walked .judged .ensures) (told .enum-told2 .given .1)) refl (refused .refuse .ensures)
 
 refuse-requires-2 : tie.Need-refuse-requires-2
 refuse-requires-2 c κs = kept (c .before .before .before .before .before .before .before .before) .work-long
-
-same-length-2 : tie.Need-same-length-2
-same-length-2 c = search needs
 
 returns-3 : tie.Need-returns-3
 unfolding unionCall
@@ -127,37 +98,29 @@ returns-3 c =
     let first = walked2 .before .before in
     let walked = first .before .before in
     let a = startOf (walked .before) .args in
-    pair-late-second union [] (now (a .left)) (now (a .right)) (now (a .result)) (now (a .work)) (kept (walked .before)) tt (walked .sound-head .ensures .0) (walked .sound-head .ensures .1) (first .first .given .1) (walked2 .sound-head2 .ensures .0) (told .enum-told3 .given .1) (refused .refuse2 .ensures)
-
-sub-load-pair : tie.Need-sub-load-pair
-sub-load-pair c = search needs
-
-part-load-pair-start : tie.Need-part-load-pair-start
-part-load-pair-start c = search needs
+    pair-late-second union [] (now (a .left)) (now (a .right)) (now (a .result)) (now (a .work)) (kept (walked .before)) tt (head-found (walked .judged .ensures) (first .first .given .1)) (found-sound (walked .judged .ensures) (first .first .given .1) .readable) refl (none-found (walked2 .judged2 .ensures) (told .enum-told3 .given .1)) refl (refused .refuse2 .ensures)
 
 part-load-pair-end : tie.Need-part-load-pair-end
-part-load-pair-end c = omega (arith, sized c .work-long)
+part-load-pair-end c = omega (arith, sized (c .before) .work-long)
 
 load-pair-requires : tie.Need-load-pair-requires
 load-pair-requires c κs =
-    let r = both (c .before) in
-    ((r .0, r .1), simp length-take (omega (arith, sized (c .before) .work-long)))
-
-sub-union-in : tie.Need-sub-union-in
-sub-union-in c = search needs
-
-part-union-in-start : tie.Need-part-union-in-start
-part-union-in-start c = search needs
+    let r = both (c .before .before) in
+    ((r .0, r .1), simp length-take (omega (arith, sized (c .before .before) .work-long)))
 
 part-union-in-end : tie.Need-part-union-in-end
-part-union-in-end c = omega (arith, c .work3 .given .1, sized (c .before .before .before) .work-long)
+part-union-in-end c = omega (arith, c .work3 .given .1, sized (c .before .before .before .before) .work-long)
 
 union-in-requires : tie.Need-union-in-requires
 union-in-requires c κs =
     let w = c .before in
     let loaded = w .before in
-    let read = loaded .before .before in
-    asked-in-window (now (start read .args .work)) (sized read .work-long) (loaded .load-pair .ensures) (w .work3 .given .0)
+    let told = loaded .before .before in
+    let read = told .before in
+    let a = start read .args in (
+      asked-in-window (now (a .work)) (sized read .work-long) (loaded .load-pair .ensures) (w .work3 .given .0),
+      λ e. rising (ordered-in-window (now (a .left)) (now (a .right)) (increase told) e (now (a .work)) (sized read .work-long) (loaded .load-pair .ensures) (w .work3 .given .0)),
+    )
 
 finish-requires : tie.Need-finish-requires
 finish-requires c κs =
@@ -165,14 +128,11 @@ finish-requires c κs =
     let united = u .before in
     let w = united .before .before in
     let loaded = w .before in
-    let read = loaded .before .before in
+    let read = loaded .before .before .before in
     let k = sized read in (
       (omega (arith, u .work4 .given .1, w .work3 .given .1, k .work-long), k .result-long),
       says-in-window (now (start read .args .work)) (k .work-long) (loaded .load-pair .ensures) (w .work3 .given .0) (united .union-in .ensures) .holds,
     )
-
-same-length-3 : tie.Need-same-length-3
-same-length-3 c = search needs
 
 same-length-4 : tie.Need-same-length-4
 same-length-4 c =
@@ -187,7 +147,7 @@ returns-4 c =
     let united = finished .before .before .before .before in
     let w = united .before .before in
     let loaded = w .before in
-    let read = loaded .before .before in
+    let read = loaded .before .before .before in
     let a = start read .args in
     let k = sized read in
     let r = both read in
@@ -200,34 +160,35 @@ pub union-spec : {M : Type 1} → statement M
 union-spec =
     tie.close
     (tie.spec
-    over-record-requires
-    over-record-requires-2
-    either-requires
-    judge-sizes-requires
-    enum-known-why
+    (λ c κs. search needs)  -- over-record-requires
+    (λ c κs. search needs)  -- over-record-requires-2
+    (λ c κs. search needs)  -- either-requires
+    (λ c κs. search needs)  -- judge-sizes-requires
+    (λ c. search needs)  -- enum-known-why
     returns
-    enum-told
-    sound-head-requires
-    enum-known-first
-    enum-told-2
+    (λ c. search needs)  -- enum-told
+    (λ c κs. search needs)  -- judged-requires
+    (λ c. search needs)  -- enum-known-first
+    (λ c. search needs)  -- enum-told-2
     refuse-requires
-    same-length
+    (λ c. search needs)  -- same-length
     returns-2
-    sound-head-requires-2
-    enum-known-second
-    enum-told-3
+    (λ c κs. search needs)  -- judged-requires-2
+    (λ c. search needs)  -- enum-known-second
+    (λ c. search needs)  -- enum-told-3
     refuse-requires-2
-    same-length-2
+    (λ c. search needs)  -- same-length-2
     returns-3
-    sub-load-pair
-    part-load-pair-start
+    (λ c κs. search needs)  -- both-requires
+    (λ c. search needs)  -- sub-load-pair
+    (λ c. search needs)  -- part-load-pair-start
     part-load-pair-end
     load-pair-requires
-    sub-union-in
-    part-union-in-start
+    (λ c. search needs)  -- sub-union-in
+    (λ c. search needs)  -- part-union-in-start
     part-union-in-end
     union-in-requires
     finish-requires
-    same-length-3
+    (λ c. search needs)  -- same-length-3
     same-length-4
     returns-4)

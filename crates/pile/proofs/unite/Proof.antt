@@ -1,25 +1,15 @@
 -- `unite`: the window is lent to the union, and what it made is moved.
+use mathlib.Core.Path.{refl}
 use mathlib.Core.Logic.{inl}
 use native.Mathlib.Omega.{arith}
+use Rattle.rules.proofs.Same.{true-not-false}
 use Rattle.pile.proofs.Uniting.{window-lent, came-long, united-done, united-refused}
 use borrow.Author.Needs.{needs}
 use Rattle.pile.proofs.unite.Statement.{statement}
 use Rattle.pile.proofs.unite.Tie as tie
 
-sub-union-in : tie.Need-sub-union-in
-sub-union-in c = search needs
-
-part-union-in-start : tie.Need-part-union-in-start
-part-union-in-start c = search needs
-
-part-union-in-end : tie.Need-part-union-in-end
-part-union-in-end c = search needs
-
 union-in-requires : tie.Need-union-in-requires
-union-in-requires c κs = window-lent _ (c .before .pre .1) (c .before .pre .0)
-
-enum-told : tie.Need-enum-told
-enum-told c = search needs
+union-in-requires c κs = (window-lent _ (c .before .pre .1) (c .before .pre .0), λ e. absurd (true-not-false e refl))
 
 move-part-requires : tie.Need-move-part-requires
 move-part-requires c κs =
@@ -28,12 +18,6 @@ move-part-requires c κs =
     let long = came-long _ (a .pre .1) (a .pre .0) (united .union-in .ensures) in
     ((omega (arith, long), omega (arith, long)), inl (omega arith))
 
-enum-known-why : tie.Need-enum-known-why
-enum-known-why c = search needs
-
-same-length : tie.Need-same-length
-same-length c = search needs
-
 returns : tie.Need-returns
 returns c =
     let moved = c .before in
@@ -41,9 +25,6 @@ returns c =
     let united = told .before .before .before in
     let a = united .before .before in
     united-done _ (a .pre .1) (a .pre .0) (united .union-in .ensures) (told .enum-told .given .1) (moved .move-part .ensures)
-
-same-length-2 : tie.Need-same-length-2
-same-length-2 c = search needs
 
 returns-2 : tie.Need-returns-2
 returns-2 c =
@@ -56,14 +37,14 @@ pub unite-spec : {M : Type 1} → statement M
 unite-spec =
     tie.close
     (tie.spec
-    sub-union-in
-    part-union-in-start
-    part-union-in-end
+    (λ c. search needs)  -- sub-union-in
+    (λ c. search needs)  -- part-union-in-start
+    (λ c. search needs)  -- part-union-in-end
     union-in-requires
-    enum-told
+    (λ c. search needs)  -- enum-told
     move-part-requires
-    enum-known-why
-    same-length
+    (λ c. search needs)  -- enum-known-why
+    (λ c. search needs)  -- same-length
     returns
-    same-length-2
+    (λ c. search needs)  -- same-length-2
     returns-2)

@@ -6,23 +6,8 @@ use Rattle.combine.proofs.United.{shapes-stop, dense-made, diagonals-ma
 use Rattle.combine.proofs.uniting.union_in.Statement.{statement}
 use Rattle.combine.proofs.uniting.union_in.Tie as tie
 
-same-shapes-requires : tie.Need-same-shapes-requires
-same-shapes-requires c κs = search needs
-
-same-length : tie.Need-same-length
-same-length c = search needs
-
 returns : tie.Need-returns
-returns c = let h = c .before in shapes-stop (h .before .before .pre) (h .same-shapes .ensures) (not-true (h .same-shapes .result) (c .if1 .taken))
-
-way-of-requires : tie.Need-way-of-requires
-way-of-requires c κs = search needs
-
-enum-told : tie.Need-enum-told
-enum-told c = search needs
-
-get-requires : tie.Need-get-requires
-get-requires c κs = search needs
+returns c = let h = c .before in shapes-stop (h .before .before .pre .0) (h .same-shapes .ensures) (not-true (h .same-shapes .result) (c .if1 .taken))
 
 complete-bare-requires : tie.Need-complete-bare-requires
 complete-bare-requires c κs =
@@ -30,16 +15,7 @@ complete-bare-requires c κs =
     let w = g .before .before .before .before in
     let f = w .before .before in
     let h = f .before in
-    ask-dense (h .before .before .pre) (h .same-shapes .ensures) (not-false (h .same-shapes .result) (f .if1 .left)) (g .get .ensures .0)
-
-made-requires : tie.Need-made-requires
-made-requires c κs = search needs
-
-enum-told-2 : tie.Need-enum-told-2
-enum-told-2 c = search needs
-
-get-requires-2 : tie.Need-get-requires-2
-get-requires-2 c κs = search needs
+    ask-dense (h .before .before .pre .0) (h .same-shapes .ensures) (not-false (h .same-shapes .result) (f .if1 .left)) (g .get .ensures .0)
 
 complete-bare-requires-2 : tie.Need-complete-bare-requires-2
 complete-bare-requires-2 c κs =
@@ -47,13 +23,7 @@ complete-bare-requires-2 c κs =
     let w = g .before .before .before .before in
     let f = w .before .before in
     let h = f .before in
-    ask-diagonal (h .before .before .pre) (h .same-shapes .ensures) (not-false (h .same-shapes .result) (f .if1 .left)) (g .get2 .ensures .0)
-
-made-requires-2 : tie.Need-made-requires-2
-made-requires-2 c κs = search needs
-
-enum-told-3 : tie.Need-enum-told-3
-enum-told-3 c = search needs
+    ask-diagonal (h .before .before .pre .0) (h .same-shapes .ensures) (not-false (h .same-shapes .result) (f .if1 .left)) (g .get2 .ensures .0)
 
 unite-rows-requires : tie.Need-unite-rows-requires
 unite-rows-requires c κs =
@@ -61,10 +31,8 @@ unite-rows-requires c κs =
     let w = k .before .before in
     let f = w .before .before in
     let h = f .before in
-    ask-rows (h .before .before .pre) (h .same-shapes .ensures) (not-false (h .same-shapes .result) (f .if1 .left)) (w .way-of .ensures) (k .enum-told3 .given .1)
-
-same-length-2 : tie.Need-same-length-2
-same-length-2 c = search needs
+    let pre = h .before .before .pre in
+    (ask-rows (pre .0) (h .same-shapes .ensures) (not-false (h .same-shapes .result) (f .if1 .left)) (w .way-of .ensures) (k .enum-told3 .given .1), pre .1)
 
 returns-2 : tie.Need-returns-2
 returns-2 c =
@@ -74,10 +42,7 @@ returns-2 c =
     let w = k .before .before in
     let f = w .before .before in
     let h = f .before in
-    dense-made (h .before .before .pre) (h .same-shapes .ensures) (not-false (h .same-shapes .result) (f .if1 .left)) (w .way-of .ensures) (k .enum-told .given .1) (g .get .ensures .0) (m .complete-bare .ensures) (c .made .ensures)
-
-same-length-3 : tie.Need-same-length-3
-same-length-3 c = search needs
+    dense-made (h .before .before .pre .0) (h .same-shapes .ensures) (not-false (h .same-shapes .result) (f .if1 .left)) (w .way-of .ensures) (k .enum-told .given .1) (g .get .ensures .0) (m .complete-bare .ensures) (c .made .ensures)
 
 returns-3 : tie.Need-returns-3
 returns-3 c =
@@ -87,35 +52,29 @@ returns-3 c =
     let w = k .before .before in
     let f = w .before .before in
     let h = f .before in
-    diagonals-made (h .before .before .pre) (h .same-shapes .ensures) (not-false (h .same-shapes .result) (f .if1 .left)) (w .way-of .ensures) (k .enum-told2 .given .1) (g .get2 .ensures .0) (m .complete-bare2 .ensures) (c .made2 .ensures)
-
-same-length-4 : tie.Need-same-length-4
-same-length-4 c = search needs
-
-returns-4 : tie.Need-returns-4
-returns-4 c = search needs
+    diagonals-made (h .before .before .pre .0) (h .same-shapes .ensures) (not-false (h .same-shapes .result) (f .if1 .left)) (w .way-of .ensures) (k .enum-told2 .given .1) (g .get2 .ensures .0) (m .complete-bare2 .ensures) (c .made2 .ensures)
 
 pub union-in-spec : {M : Type 1} → statement M
 union-in-spec =
     tie.close
     (tie.spec
-    same-shapes-requires
-    same-length
+    (λ c κs. search needs)  -- same-shapes-requires
+    (λ c. search needs)  -- same-length
     returns
-    way-of-requires
-    enum-told
-    get-requires
+    (λ c κs. search needs)  -- way-of-requires
+    (λ c. search needs)  -- enum-told
+    (λ c κs. search needs)  -- get-requires
     complete-bare-requires
-    made-requires
-    enum-told-2
-    get-requires-2
+    (λ c κs. search needs)  -- made-requires
+    (λ c. search needs)  -- enum-told-2
+    (λ c κs. search needs)  -- get-requires-2
     complete-bare-requires-2
-    made-requires-2
-    enum-told-3
+    (λ c κs. search needs)  -- made-requires-2
+    (λ c. search needs)  -- enum-told-3
     unite-rows-requires
-    same-length-2
+    (λ c. search needs)  -- same-length-2
     returns-2
-    same-length-3
+    (λ c. search needs)  -- same-length-3
     returns-3
-    same-length-4
-    returns-4)
+    (λ c. search needs)  -- same-length-4
+    (λ c. search needs))  -- returns-4
