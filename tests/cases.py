@@ -168,6 +168,17 @@ def two_exchangers():
     return dense([1, 1], [(0, 0, 0)], [(0, 0, 0)]), [2, 3, 4]
 
 
+def many_indices():
+    """Indices looked up in one call: as many as the result has room for and one more, of records with and without axes, and with two faults."""
+    scalar, full_row, two = dense([]), sparse([200], run_of(9, 128)), sparse([3, 3], [(0, 1), (1, 0), (2, 2)])
+    unordered, cut = sparse([3], [(1,), (0,)]), [2, 0, 1, 3, 2, 1]
+    yield from [line(35, scalar, n, [], 1802) for n in (0, 1, 1802, 1803, -1)]
+    yield from [line(35, full_row, n, [k % 200 for k in range(n)], 1802) for n in (200, 1801, 1802, 1803)]
+    yield line(35, full(), 1802, [k // 4 % 4 if k % 4 else 1 for k in range(4 * 1802)], 1802)
+    yield from [line(35, two, n, [2, 2, 1, 1, 0, 1][:m], size) for n, m in ((3, 6), (3, 5), (2, 6)) for size in (1801, 1802, 1803)]
+    yield from [line(35, s, n, [-1], size) for s in ([2, 0, 5], cut, unordered) for n in (1, -1, 1803) for size in (0, 1802)]
+
+
 def modes_of_stretching():
     """Both modes of stretching: dependencies outside the new extents, new extents 0, axes that stay 1, 128 and 129 combinations, and as many as a shape has; no mode, alone and with another fault."""
     balance, segments = two_exchangers()
@@ -208,5 +219,6 @@ def contractions_over_dense_axes():
 def all_cases():
     """Every request made by hand, once."""
     positions = [request for _, request, _ in worked_by_hand()]
-    parts = (positions, limits_of_records(), limits_of_pairs(), limits_of_others(), two_faults(), tests_of_the_rust(), ranges_of_the_rust(), modes_of_stretching(), contractions_over_dense_axes())
+    parts = (positions, limits_of_records(), limits_of_pairs(), limits_of_others(), two_faults(), tests_of_the_rust(), ranges_of_the_rust(), modes_of_stretching(), contractions_over_dense_axes(),
+             many_indices())
     return list(dict.fromkeys(request for part in parts for request in part))

@@ -20,7 +20,7 @@ CALLS = {
     27: ('Szzcc', 'concatenateCall', 'record'), 28: ('SSzzcc', 'filterDepsFromCall', 'record'),
     29: ('S', 'sound', 'test'), 30: ('S', 'ordered', 'test'), 31: ('Sz', 'row', 'part'),
     32: ('SSzcc', 'broadcastToShapeWithModeCall', 'record'), 33: ('Szzcc', 'broadcastToRankWithModeCall', 'record'),
-    34: ('Szbzcc', 'broadcastWithModeCall', 'record'),
+    34: ('Szbzcc', 'broadcastWithModeCall', 'record'), 35: ('SzSc', 'findNnzIndicesCall', 'numbers'),
 }
 NEVER_REFUSED = (29, 30, 31)
 TYPES = {'tuple': 'List ℕ', 'test': 'Bool', 'number': 'ℕ', 'ordering': 'Ordering', 'place': 'Lookup', 'record': 'List ℤ',

@@ -43,6 +43,7 @@ pub fn named(op: i32) -> Option<(&'static str, Operation)> {
         32 => ("SSnnn", |asked| in_mode_0(asked, 0, made::broadcast_to_shape)),
         33 => ("Snnnn", |asked| in_mode_0(asked, 1, made::broadcast_to_rank)),
         34 => ("Snnnnn", |asked| in_mode_0(asked, 2, lists::broadcast)),
+        35 => ("SnSn", read::find_nnz_indices),
         _ => return None,
     })
 }

@@ -4,8 +4,8 @@
 `answers.py union-records`, `answers.py exchange-records` and `answers.py optimiser-example` print what the programs of these names print.
 """
 import sys
-from rules import (Block, Layout, MAX_COUNT, MAX_RANK, MAX_STATES, PATTERN_NUMBERS, Refusal, SPARSE, WORDS, arguments,
-                   broadcast, broadcast_shapes, broadcast_to_rank, broadcast_to_shape, can_broadcast_to,
+from rules import (Block, Layout, MAX_COUNT, MAX_RANK, MAX_STATES, PATTERN_NUMBERS, RESULT_NUMBERS, Refusal, SPARSE,
+                   WORDS, arguments, broadcast, broadcast_shapes, broadcast_to_rank, broadcast_to_shape, can_broadcast_to,
                    check_proposal, cmp_index, concatenate, contract_last_axis, convert, counts_as_zero, dense,
                    diagonal, eq_nonzeros, eq_nonzeros_and_deps, exchange, filter_deps_from, first_step,
                    good_components, good_content, good_end, good_index, intersect, landed, lookup, lookup_by_summary,
@@ -88,6 +88,20 @@ def op_lookup(s, index, order=0):
     refused = arguments(records=(w,), to_be_ordered=(w,), order=order,
                         wrong=lambda: not good_index(index, w.layout.rank))
     return answered(refused or first_step((w.layout,), lambda l: lookup(l, index, order)), show_found)
+
+
+def place_number(what):
+    """What stands for the answer of a lookup among others: the place, or -1."""
+    return what[1] if what[0] == "found" else -1
+
+
+def op_lookup_all(s, count, values, r):
+    """Operation 35."""
+    w = walk_record(s)
+    wrong = lambda: not (0 <= count <= RESULT_NUMBERS and len(values) == count * w.layout.rank and good_components(values))
+    places = lambda l: [place_number(lookup(l, values[i * l.rank:(i + 1) * l.rank])) for i in range(count)]
+    return answered(arguments(records=(w,), to_be_ordered=(w,), result=r, wrong=wrong)
+                    or first_step((w.layout,), places), show_list)
 
 
 def of_one(function, show):
@@ -296,6 +310,7 @@ OPERATIONS = {
     26: ("Snnnn", op_broadcast), 27: ("Snnnn", op_concatenate), 28: ("SSnnnn", op_filter_deps_from),
     29: ("S", op_sound), 30: ("S", op_ordered), 31: ("Sn", op_row),
     32: ("SSnnn", stretch_to_shape), 33: ("Snnnn", stretch_to_rank), 34: ("Snnnnn", stretch_and_fold),
+    35: ("SnSn", op_lookup_all),
     40: ("Snn", op_build_summary), 41: ("SSSS", op_lookup_by_summary), 42: ("Snn", op_pattern),
     43: ("SSnS", op_check_proposal), 44: ("SSn", op_ravel_index), 45: ("nSn", op_unravel_index),
     46: ("SSn", op_cmp_index), 47: ("Sn", op_sound), 48: ("Sn", op_ordered), 49: ("SSn", op_lookup),

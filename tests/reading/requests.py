@@ -92,15 +92,20 @@ class Requests(Layouts):
             a, b = [1] * 5, [1] * 5
         return self.line(5, a, b)
 
-    def op7(self):
-        """find_nnz_index"""
-        l = self.limit_layout() if self.chance(0.04) else self.layout(ordered=0.93)
+    def sought(self, l):
+        """An index to look up in a layout, often that of a row."""
         shape = l["shape"]
         i = self.index(len(shape), shape)
         if l["rows"] and self.chance(0.5):
             row = list(self.r.choice(l["rows"]))
             i = row + [self.component(e, 0.1) for e in shape[len(row):]]
             i = [self.r.randrange(9) if e == 1 and self.chance(0.3) else c for c, e in zip(i, shape)]
+        return i
+
+    def op7(self):
+        """find_nnz_index"""
+        l = self.limit_layout() if self.chance(0.04) else self.layout(ordered=0.93)
+        i = self.sought(l)
         return self.line(7, self.rec(l), i)
 
     def op8(self):
@@ -612,8 +617,18 @@ class Requests(Layouts):
             n = self.r.randrange(len(l["rows"]))
         return self.line(31, self.rec(l, 0.15), n)
 
+    def op35(self):
+        """find_nnz_indices"""
+        l = self.limit_layout() if self.chance(0.04) else self.layout(ordered=0.93)
+        n = self.one(0, 1, 1, 2, 3, 4, 5, 9) if self.chance(0.97) else self.one(128, 1801, 1802, 1803)
+        indices = [c for _ in range(n) for c in self.sought(l)]
+        count = n if self.chance(0.95) else self.one(n + 1, n - 1, -1, 1803, BIG, -BIG - 1)
+        if indices and self.chance(0.05):
+            indices[self.r.randrange(len(indices))] = self.one(-1, 65536, BIG, -BIG - 1, 65535)
+        return self.line(35, self.rec(l), count, indices, self.result())
+
     WEIGHTS = {1: 2, 2: 1, 3: 1, 4: 1, 5: 1, 7: 3, 8: 1, 9: 1, 10: 1, 11: 1, 12: 1, 13: 1, 14: 0.3, 15: 1, 16: 1,
-               17: 2, 18: 1, 19: 4, 20: 2, 22: 5, 23: 6, 24: 3, 25: 4, 26: 7, 27: 7, 28: 4, 29: 2, 30: 1, 31: 1}
+               17: 2, 18: 1, 19: 4, 20: 2, 22: 5, 23: 6, 24: 3, 25: 4, 26: 7, 27: 7, 28: 4, 29: 2, 30: 1, 31: 1, 35: 3}
 
     def request(self, ops=None):
         """A request of one of the operations, by their weights."""

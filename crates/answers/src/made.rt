@@ -28,6 +28,15 @@ fn answer(request: &[i32], at: [usize; 7], result: &mut [i32], out: &mut [u8]) -
             replies::record(layout::sparse(first, count, rows, result), result, out)
         }
         18 => replies::counted(layout::to_data_layout(first, result), result, out),
+        35 => {
+            let count = number(request, at[1]);
+            let indices = list(request, at[2]);
+            replies::counted(
+                layout::find_nnz_indices(first, count, indices, result),
+                result,
+                out,
+            )
+        }
         _ => replies::word(b"unknown", out, 0),
     }
 }

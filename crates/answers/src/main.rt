@@ -158,7 +158,7 @@ fn answer(request: &[i32], result: &mut [i32], work: &mut [i32], out: &mut [u8])
         return replies::word(b"bad request", out, 0);
     }
     match operation {
-        12..=18 => made::lend(request, at, result, out),
+        12..=18 | 35 => made::lend(request, at, result, out),
         19..=28 | 32..=34 => worked::lend(request, at, result, work, out),
         _ => plain::answer(request, at, out),
     }

@@ -13,8 +13,9 @@ use mir.Val.{Fits}
 use Rattle.rules.specs.Limits.{resultSize}
 use Rattle.rules.specs.declared.Refusal.{Refusal}
 use Rattle.rules.specs.declared.Written.{Written}
-use Rattle.rules.specs.declared.Written.the-variants.{Refused}
-use Rattle.rules.specs.Refusals.{Verdict, refused, inForm, numberOf}
+use Rattle.rules.specs.declared.Written.the-variants.{Numbers, Refused}
+use Rattle.rules.specs.Refusals.{Verdict, given, refused, inForm, numberOf}
+use Rattle.rules.specs.Buffers.{over}
 use Rattle.rules.specs.Record.{natural, shapeIn}
 use Rattle.rules.specs.Arguments.{overRank, shortResult}
 use Rattle.rules.specs.Endings.{EndsIn, resultAfter}
@@ -24,11 +25,21 @@ use Rattle.cells.specs.View.{signOf, sizeOf}
 use Rattle.records.proofs.Sections.{size-natural}
 use Rattle.shapes.proofs.Reading.{as-natural, as-nothing}
 
-module _ {A : Type 0} (form : A → List ℤ) (v : Verdict A) where
+module _ (v : Verdict (List ℤ)) where
   -- a refusal leaves the result as it was
-  pub ends-refused : (why : Refusal) {old : List ℤ} → refused (numberOf why) ≡ v → EndsIn (inForm form v) old (Refused why) old
+  pub refused-in : (why : Refusal) {old : List ℤ} → refused (numberOf why) ≡ v → EndsIn v old (Refused why) old
   unfolding resultAfter
-  ends-refused why e = rw (← e) (record { answer = refl; result-is = refl })
+  refused-in why e = rw (← e) (record { answer = refl; result-is = refl })
+
+  -- what is given stands at the front of it
+  pub written-in : {numbers old new : List ℤ} {n : ℕ} → given numbers ≡ v → length numbers ≡ n → new ≡ over numbers old → EndsIn v old (Numbers n) new
+  unfolding resultAfter
+  written-in e size is = rw (← e) (record { answer = rw size; result-is = is })
+
+module _ {A : Type 0} (form : A → List ℤ) (v : Verdict A) where
+  -- so does one of an answer in another form
+  pub ends-refused : (why : Refusal) {old : List ℤ} → refused (numberOf why) ≡ v → EndsIn (inForm form v) old (Refused why) old
+  ends-refused why e = refused-in (inForm form v) why (ap (inForm form) e)
 
   -- a step that the call comes to ends it
   pub ends-stepped : (w : Verdict A) {r : Written} {old new : List ℤ} → EndsIn (inForm form w) old r new → w ≡ v → EndsIn (inForm form v) old r new

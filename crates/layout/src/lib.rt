@@ -19,6 +19,7 @@ pub use pile::exchange_all;
 pub use record_calls::eq_nonzeros;
 pub use record_calls::eq_nonzeros_and_deps;
 pub use record_calls::find_nnz_index;
+pub use record_calls::find_nnz_indices;
 pub use record_calls::min_rank;
 pub use record_calls::nnz;
 pub use records::ordered;

@@ -33,7 +33,7 @@ use Rattle.tables.proofs.Rows.{row-length}
 use Rattle.records.specs.Sound.{SoundRecord}
 use Rattle.records.proofs.Naturals.{low-front, has-front}
 use Rattle.records.proofs.SoundRecords.{lies, layout-shown, sound-rows}
-use Rattle.records.proofs.Shown.{record-shape, rank-shown, width-shown}
+use Rattle.records.proofs.Shown.{record-shape, width-shown}
 use Rattle.shapes.proofs.Judging.{rank-counted}
 use Rattle.shapes.proofs.Reading.{components-small, length-naturals, natural-getD}
 use Rattle.lookups.specs.Indices.{IndexRead}

@@ -4,3 +4,4 @@ pub mod Counting
 pub mod Reading
 pub mod Placing
 pub mod Finding
+pub mod FindingAll

@@ -12,7 +12,7 @@ pub fn form(operation: i32) -> [u8; 6] {
         8 | 9 | 29 | 30 => *b"S     ",
         13 => *b"nn    ",
         14 => *b"n     ",
-        17 => *b"SnSn  ",
+        17 | 35 => *b"SnSn  ",
         19 | 22 | 23 | 25 => *b"SSnn  ",
         20 => *b"Snnn  ",
         24 => *b"Snn   ",

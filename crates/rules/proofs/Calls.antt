@@ -75,7 +75,7 @@ module _ (s : List ℤ) (result work : ℕ) {l : Layout} (g : contractLastAxisCa
 
 module _ (s : List ℤ) (e : sound s ≡ true) where
   -- its count of extents is the rank of its layout
-  rank-third : natural (getD s 2 (pos 0)) ≡ rank (layoutIn s)
+  pub rank-third : natural (getD s 2 (pos 0)) ≡ rank (layoutIn s)
   rank-third = rw (record-and-rest s e) at (rank-stands (layoutIn s) (behindRecord s))
 
   -- it is at most 4

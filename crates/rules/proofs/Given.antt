@@ -27,7 +27,7 @@ use Rattle.rules.proofs.StretchedAnswers.{stretched-low}
 -- ---- what was made
 
 -- where a step is given, no reason held
-pub step-given : (reasons : List Reason) (v : Verdict Layout) {x : Layout} → (lowest reasons then λ _. v) ≡ given x → v ≡ given x
+pub step-given : {A : Type 0} (reasons : List Reason) (v : Verdict A) {x : A} → (lowest reasons then λ _. v) ≡ given x → v ≡ given x
 step-given reasons v {x} = by (lowest reasons)
   where
     by : (r : Verdict Unit) → (r then λ _. v) ≡ given x → v ≡ given x

@@ -82,6 +82,7 @@ pub mod StretchedHolds
 pub mod Full
 pub mod IntersectHolds
 pub mod Calls
+pub mod FoundAll
 pub mod Piled
 pub mod PiledPairs
 pub mod Summing

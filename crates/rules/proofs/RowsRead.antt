@@ -56,6 +56,12 @@ naturals-take zero l = refl
 naturals-take (suc n) [] = refl
 naturals-take (suc n) (z ∷ l) = rw (naturals-take n l)
 
+-- and so is its end
+pub naturals-drop : (n : ℕ) (l : List ℤ) → drop n (naturals l) ≡ naturals (drop n l)
+naturals-drop zero l = refl
+naturals-drop (suc n) [] = refl
+naturals-drop (suc n) (z ∷ l) = naturals-drop n l
+
 -- ---- rows that are read
 
 -- there are as many as asked for

@@ -1,15 +1,16 @@
 -- Module 4, lookup: the place of an index.
-use mathlib.Core.Bool.{not}
-use mathlib.Core.List.{List, [], _∷_}
-use Prim.Native.Nat.{ℕ, suc}
-use lib.ListN.{getD, take}
+use mathlib.Core.Bool.{Bool, not, _&&_}
+use mathlib.Core.List.{List, [], _∷_, map}
+use Prim.Native.Nat.{ℕ, suc, _*_}
+use lib.ListN.{length, getD, take}
 use lib.Dec.{eqb}
-use lib.IntN.{ℤ, pos}
+use lib.IntN.{ℤ, pos, negsuc}
+use Rattle.rules.specs.Limits.{resultSize}
 use Rattle.rules.specs.Lists.{if, all, allBelow, same}
 use Rattle.rules.specs.Refusals.{Verdict, given, _then_, _when_, lowest}
 use Rattle.rules.specs.Layout.{Layout, width, isDense, isDiagonal}
-use Rattle.rules.specs.Record.{natural, naturals, layoutIn, sound, ordered}
-use Rattle.rules.specs.Arguments.{overRecord, goodIndex}
+use Rattle.rules.specs.Record.{natural, naturals, rowsOf, layoutIn, sound, ordered}
+use Rattle.rules.specs.Arguments.{overRecord, shortResult, upTo, goodComponents, goodIndex}
 use Rattle.rules.specs.Endings.{Lookup, found, nothing}
 use Rattle.rules.specs.Positions.{ravelIndex}
 
@@ -44,3 +45,24 @@ unfoldable pub findNnzIndexCall : List ℤ → List ℤ → Verdict Lookup
 findNnzIndexCall s index =
     lowest (1 when overRecord s ∷ 3 when not (sound s) ∷ 4 when not (ordered s) ∷ 5 when not (goodIndex index (natural (getD s 2 (pos 0)))) ∷ [])
     then λ _. given (lookup (layoutIn s) (naturals index))
+
+-- ---- many indices
+
+-- what stands for an answer in a list of answers: the place, or -1 where nothing is found
+unfoldable pub placeNumber : Lookup → ℤ
+placeNumber (found n) = pos n
+placeNumber nothing = negsuc 0
+
+-- 5: a count of indices is 0..1,802, and the numbers are so many indices of R components
+unfoldable pub goodIndices : ℤ → List ℤ → ℕ → Bool
+goodIndices count indices r = upTo resultSize count && (eqb (length indices) (natural count * r) && goodComponents indices)
+
+-- each of n indices, end to end, looked up
+unfoldable pub placesOf : Layout → ℕ → ℕ → List ℤ → List ℤ
+placesOf l r n indices = map (λ index. placeNumber (lookup l index)) (rowsOf r n (naturals indices))
+
+unfoldable pub findNnzIndicesCall : List ℤ → ℤ → List ℤ → ℕ → Verdict (List ℤ)
+findNnzIndicesCall s count indices size =
+    let r : ℕ = natural (getD s 2 (pos 0)) in
+    lowest (1 when overRecord s ∷ 2 when shortResult size ∷ 3 when not (sound s) ∷ 4 when not (ordered s) ∷ 5 when not (goodIndices count indices r) ∷ [])
+    then λ _. given (placesOf (layoutIn s) r (natural count) indices)

@@ -2,23 +2,25 @@
 use mathlib.Core.Path.{_≡_, refl, sym, ap, _∙_}
 use mathlib.Core.Bool.{Bool, true, false, not, _&&_}
 use mathlib.Core.List.{List, [], _∷_}
-use Prim.Native.Nat.{ℕ, zero, suc, _<_, _≤_}
+use Prim.Native.Nat.{ℕ, zero, suc, _*_, _<_, _≤_}
+use native.Mathlib.Nat.{lt-of-le-of-lt, mul-le-mul}
 use native.Mathlib.Omega.{arith}
 use borrow.Author.Tests.{lt-ltb, le-ltb, le-leb, lt-leb, leb-true, leb-false, eq-eqb, ne-eqb, eqb-true, not-true, not-false}
-use lib.Dec.{ltb, leb, eqb}
+use lib.Dec.{ltb, leb, eqb, lit<}
 use lib.IntN.{ℤ, pos, negsuc}
 use lib.ListN.{length, getD, List·getD-eq-default, List·getD-map, length-map}
 use lib.Seq.{take-all}
 use lib.Signed.{nonNeg}
-use mir.Syntax.{w32}
-use mir.Val.{SFits, toZ, ofZ}
+use mir.Syntax.{w32, w64}
+use mir.Val.{Fits, SFits, toZ, ofZ}
 use mir.ValLaws.{toZ-ofZ}
-use Rattle.rules.specs.Limits.{rankLimit, listLimit, componentLimit}
+use Rattle.rules.specs.Limits.{rankLimit, listLimit, componentLimit, resultSize}
 use Rattle.rules.specs.Lists.{all}
 use Rattle.rules.specs.Buffers.{part}
 use Rattle.rules.specs.RowsInOrder.{cmpRows}
 use Rattle.rules.specs.Record.{natural, naturals, listCount}
 use Rattle.rules.specs.Arguments.{upTo, overCount, goodComponents, goodIndex}
+use Rattle.rules.specs.Lookup.{goodIndices}
 use Rattle.rules.proofs.RowsRead.{pos-naturals}
 use Rattle.rules.proofs.Same.{both-true, true-not-false}
 use Rattle.cells.specs.declared.Sign.{Sign}
@@ -46,7 +48,7 @@ module _ (z : ℤ) (e : signOf z ≡ Negative) where
       by (pos n) f = cc
       by (negsuc n) f = refl
 
-  none-up-to : (limit : ℕ) → false ≡ upTo limit z
+  pub none-up-to : (limit : ℕ) → false ≡ upTo limit z
   unfolding signOf upTo
   none-up-to limit = by z e
     where
@@ -152,6 +154,23 @@ module _ (s : List ℤ) (n : ℕ) where
   pub index-components : {b : Bool} → length s ≡ n → b ≡ goodComponents s → b ≡ goodIndex s n
   index-components h e = rw (eq-eqb (length s) n h) e
 
+module _ (s : List ℤ) (n r : ℕ) where
+  pub indices-many : resultSize < n → false ≡ goodIndices (pos n) s r
+  unfolding goodIndices upTo
+  indices-many h = rw (lt-leb n resultSize h)
+
+  pub indices-fit : n ≤ resultSize → r ≤ 4 → Fits w64 (n * r)
+  indices-fit h k = record { fits = lt-of-le-of-lt (mul-le-mul h k) (lit< tt) }
+
+  module _ (h : n ≤ resultSize) where
+    pub indices-length : (length s ≡ n * r → ⊥) → false ≡ goodIndices (pos n) s r
+    unfolding goodIndices upTo natural
+    indices-length d = rw (le-leb n resultSize h, ne-eqb (length s) (n * r) d)
+
+    pub indices-components : {b : Bool} → length s ≡ n * r → b ≡ goodComponents s → b ≡ goodIndices (pos n) s r
+    unfolding goodIndices upTo natural
+    indices-components e g = rw (le-leb n resultSize h, eq-eqb (length s) (n * r) e) g
+
 module _ (a b : List ℤ) where
   pub pair-lengths : (length a ≡ length b → ⊥) → false ≡ comparableIndices a b
   pair-lengths h = rw (ne-eqb (length a) (length b) h)
@@ -167,7 +186,7 @@ module _ (a b : List ℤ) where
       pub pair-second : {u : Bool} → t ≡ true → u ≡ goodComponents b → u ≡ comparableIndices a b
       pair-second f g = rw (eq-eqb (length a) (length b) l, le-leb (length a) 4 h, ← e, f) g
 
-pub ruleset indices = (index-length, index-components, pair-lengths, pair-long, pair-first, pair-second, not-true, not-false)
+pub ruleset indices = (index-length, index-components, indices-many, indices-fit, indices-length, indices-components, pair-lengths, pair-long, pair-first, pair-second, not-true, not-false)
 
 -- components are small
 pub components-small : (s : List ℤ) → goodComponents s ≡ true → (k : ℕ) → getD (view s) k 0 ≤ 65535

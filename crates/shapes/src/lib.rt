@@ -13,6 +13,7 @@ pub use extents::within_product;
 pub use numbers::comparable;
 pub use numbers::good_components;
 pub use numbers::good_index;
+pub use numbers::good_indices;
 pub use numbers::list_count;
 pub use numbers::natural_at;
 pub use numbers::over_count;

@@ -1,10 +1,11 @@
 // Numbers among the arguments of a call.
 ghost use mathlib.Core.Path.{_≡_};
-ghost use Prim.Native.Nat.{_<_, _^_};
+ghost use Prim.Native.Nat.{_<_, _≤_, _^_};
 ghost use lib.IntN.{pos};
 ghost use lib.ListN.{getD};
 ghost use Rattle.rules.specs.Record.{natural, listCount};
 ghost use Rattle.rules.specs.Arguments.{upTo, overCount, goodComponents, goodIndex};
+ghost use Rattle.rules.specs.Lookup.{goodIndices};
 ghost use Rattle.shapes.specs.Judged.{comparableIndices};
 use cells::Sign;
 
@@ -73,6 +74,20 @@ pub fn good_index(s: &[i32], n: usize) -> bool
     ensures { λ r. ⌜ r ≡ goodIndex (now (s .entry)) n ⌝ }
 {
     if s.len() != n {
+        return false;
+    }
+    good_components(s)
+}
+
+// Whether a count is one of indices, and the numbers are so many, of r components each.
+pub fn good_indices(s: &[i32], n: usize, r: usize) -> bool
+    requires { ⌜ r ≤ 4 ⌝ }
+    ensures { λ b. ⌜ b ≡ goodIndices (pos n) (now (s .entry)) r ⌝ }
+{
+    if rules::RESULT_SIZE < n {
+        return false;
+    }
+    if s.len() != n * r {
         return false;
     }
     good_components(s)

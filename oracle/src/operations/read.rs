@@ -4,10 +4,23 @@ use crate::answer::{self, ask};
 use crate::discretise::layout::record;
 use crate::request::Arguments;
 
+/// The most indices that are looked up for one request.
+const MOST_INDICES: usize = 1802;
+
 /// The place of an index among a layout's positions.
 pub fn find_nnz_index(a: &Arguments) -> Option<String> {
     let (layout, index) = (a.layout(0)?, record::index(a.slices[1]));
     Some(ask(|| Some(layout.find_nnz_index(&index)), answer::place))
+}
+
+/// The place of each of some indices, end to end, among a layout's positions, one by one; -1 where it has none.
+pub fn find_nnz_indices(a: &Arguments) -> Option<String> {
+    let (layout, count) = (a.layout(0)?, a.count(0).filter(|&count| count <= MOST_INDICES)?);
+    let rank = layout.rank();
+    let index = |i: usize| Some(record::index(a.slices[1].get(i * rank..(i + 1) * rank)?));
+    let indices: Vec<_> = (0..count).map(index).collect::<Option<_>>()?;
+    let place = |index| layout.find_nnz_index(index).map_or(-1, record::number);
+    Some(ask(|| Some(indices.iter().map(place).collect()), answer::list))
 }
 
 /// How many positions a layout has.

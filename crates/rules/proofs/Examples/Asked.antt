@@ -19,7 +19,7 @@ use Rattle.rules.specs.Holding.{holds}
 use Rattle.rules.specs.Intersect.{withDense, intersectOfRows, intersect, intersectCall}
 use Rattle.rules.specs.Layout.{withinProduct, alike, wellFormed, withinSizes, soundLayout, made, encode}
 use Rattle.rules.specs.Lists.{all, any, keep, gather, none, from, product, sum, largest, same, sameRows, allBelow, with, fitTo}
-use Rattle.rules.specs.Lookup.{readIndex, placeFrom, placeOf, lookup, findNnzIndexCall}
+use Rattle.rules.specs.Lookup.{readIndex, placeFrom, placeOf, lookup, findNnzIndexCall, placeNumber, goodIndices, placesOf, findNnzIndicesCall}
 use Rattle.rules.specs.Pairs.{expanded, lowered}
 use Rattle.rules.specs.Permute.{repeats, isPermutation, movedTo, moved, permuted, permute, permuteCall}
 use Rattle.rules.specs.Pile.{belongs, exchange, exchanged, exchangesMade, howMany, nonzeros, exchangeCall, exchangesFrom, exchangeAllCall, exchangesIn}
@@ -163,3 +163,7 @@ askBroadcastToRankWithMode a b c d e = inForm encode (broadcastToRankWithModeCal
 unfoldable pub askBroadcastWithMode : List ℤ → ℤ → ℕ → ℤ → ℕ → ℕ → Verdict (List ℤ)
 unfolding upTo ruleOf combine stretchAll foldOnto foldBack endOfBroadcast broadcast broadcastWithModeCall part over put firstD lastAgree agree eqNonzeros toDense denseIfFull dense diagonal sparse onIndex held filterDeps barsFilter holds withDense intersectOfRows intersect withinProduct alike wellFormed withinSizes soundLayout made encode all any keep gather none from product largest same sameRows allBelow with fitTo expanded lowered belongs entriesFrom sectionAt walk natural rowsOf entriesOf layoutBy layoutIn sound ordered row behindRecord endToEnd listCount lowest positions removedRows removedDeps listsRow removeDenseAxes cmpRows increasing insert sorted sortedOnto extents commonShape shapesAgree broadcastShapes sharedAxesFit stretchedAxes everyValue takeAll stretchRows yields stretchDeps stretched broadcastToShape modeOf unionOfRows union
 askBroadcastWithMode a b c d e f = inForm encode (broadcastWithModeCall a b c d e f)
+
+unfoldable pub askFindNnzIndices : List ℤ → ℤ → List ℤ → ℕ → Verdict (List ℤ)
+unfolding upTo goodComponents part over put dense diagonal sparse held holds withinProduct alike wellFormed withinSizes soundLayout made all any keep gather none from product sum same allBelow with readIndex placeFrom placeOf lookup placeNumber goodIndices placesOf findNnzIndicesCall ravelIndex entriesFrom sectionAt walk natural rowsOf entriesOf layoutBy layoutIn sound ordered row lowest positions cmpRows increasing insert sorted extents
+askFindNnzIndices a b c d = findNnzIndicesCall a b c d

@@ -9,7 +9,7 @@ use Rattle.rules.specs.declared.Ordering.{Ordering}
 use Rattle.rules.specs.declared.Ordering.the-variants.{Less, Equal, Greater}
 use Rattle.rules.specs.Refusals.{given, refused}
 use Rattle.rules.specs.Endings.{found, nothing}
-use Rattle.rules.proofs.Examples.Asked.{nums, askFindNnzIndex}
+use Rattle.rules.proofs.Examples.Asked.{nums, askFindNnzIndex, askFindNnzIndices}
 
 -- findNnzIndexCall: answered
 e1 : askFindNnzIndex (nums (0 ∷ 0 ∷ 0 ∷ 0 ∷ 0 ∷ 0 ∷ [])) [] ≡ given (found 0)
@@ -187,3 +187,99 @@ e42 = refl
 e43 : askFindNnzIndex (nums (1 ∷ 0 ∷ 1 ∷ 2 ∷ 0 ∷ 0 ∷ 0 ∷ [])) (negsuc 2147483647 ∷ []) ≡ refused 5
 unfolding askFindNnzIndex
 e43 = refl
+
+-- findNnzIndicesCall: answered
+e44 : askFindNnzIndices (nums (2 ∷ 0 ∷ 2 ∷ 3 ∷ 3 ∷ 3 ∷ 0 ∷ 1 ∷ 1 ∷ 0 ∷ 2 ∷ 2 ∷ 0 ∷ 0 ∷ [])) (pos 3) (nums (2 ∷ 2 ∷ 0 ∷ 1 ∷ 1 ∷ 1 ∷ [])) 1802 ≡ given (pos 2 ∷ pos 0 ∷ negsuc 0 ∷ [])
+unfolding askFindNnzIndices
+e44 = refl
+
+e45 : askFindNnzIndices (nums (2 ∷ 0 ∷ 2 ∷ 3 ∷ 3 ∷ 3 ∷ 0 ∷ 1 ∷ 1 ∷ 0 ∷ 2 ∷ 2 ∷ 0 ∷ 0 ∷ [])) (pos 0) [] 1802 ≡ given []
+unfolding askFindNnzIndices
+e45 = refl
+
+e46 : askFindNnzIndices (nums (2 ∷ 0 ∷ 2 ∷ 1 ∷ 3 ∷ 2 ∷ 0 ∷ 0 ∷ 0 ∷ 2 ∷ 0 ∷ 0 ∷ [])) (pos 3) (nums (7 ∷ 2 ∷ 0 ∷ 1 ∷ 0 ∷ 0 ∷ [])) 1802 ≡ given (pos 1 ∷ negsuc 0 ∷ pos 0 ∷ [])
+unfolding askFindNnzIndices
+e46 = refl
+
+e47 : askFindNnzIndices (nums (0 ∷ 2 ∷ 2 ∷ 2 ∷ 3 ∷ 0 ∷ 0 ∷ 0 ∷ [])) (pos 3) (nums (1 ∷ 2 ∷ 0 ∷ 0 ∷ 2 ∷ 0 ∷ [])) 1802 ≡ given (pos 5 ∷ pos 0 ∷ negsuc 0 ∷ [])
+unfolding askFindNnzIndices
+e47 = refl
+
+e48 : askFindNnzIndices (nums (1 ∷ 0 ∷ 2 ∷ 3 ∷ 3 ∷ 0 ∷ 0 ∷ 0 ∷ [])) (pos 3) (nums (2 ∷ 2 ∷ 1 ∷ 0 ∷ 3 ∷ 3 ∷ [])) 1802 ≡ given (pos 2 ∷ negsuc 0 ∷ negsuc 0 ∷ [])
+unfolding askFindNnzIndices
+e48 = refl
+
+e49 : askFindNnzIndices (nums (0 ∷ 0 ∷ 0 ∷ 0 ∷ 0 ∷ 0 ∷ [])) (pos 4) [] 1802 ≡ given (nums (0 ∷ 0 ∷ 0 ∷ 0 ∷ []))
+unfolding askFindNnzIndices
+e49 = refl
+
+e50 : askFindNnzIndices (nums (2 ∷ 1 ∷ 2 ∷ 2 ∷ 3 ∷ 1 ∷ 1 ∷ 0 ∷ 0 ∷ [])) (pos 3) (nums (1 ∷ 0 ∷ 1 ∷ 2 ∷ 0 ∷ 0 ∷ [])) 1802 ≡ given (pos 0 ∷ pos 0 ∷ negsuc 0 ∷ [])
+unfolding askFindNnzIndices
+e50 = refl
+
+-- findNnzIndicesCall: refused 5
+e51 : askFindNnzIndices (nums (0 ∷ 0 ∷ 0 ∷ 0 ∷ 0 ∷ 0 ∷ [])) (pos 1803) [] 1802 ≡ refused 5
+unfolding askFindNnzIndices
+e51 = refl
+
+e52 : askFindNnzIndices (nums (0 ∷ 0 ∷ 0 ∷ 0 ∷ 0 ∷ 0 ∷ [])) (negsuc 0) [] 1802 ≡ refused 5
+unfolding askFindNnzIndices
+e52 = refl
+
+e53 : askFindNnzIndices (nums (2 ∷ 0 ∷ 2 ∷ 3 ∷ 3 ∷ 3 ∷ 0 ∷ 1 ∷ 1 ∷ 0 ∷ 2 ∷ 2 ∷ 0 ∷ 0 ∷ [])) (pos 2) (nums (2 ∷ 2 ∷ 0 ∷ [])) 1802 ≡ refused 5
+unfolding askFindNnzIndices
+e53 = refl
+
+e54 : askFindNnzIndices (nums (2 ∷ 0 ∷ 2 ∷ 3 ∷ 3 ∷ 3 ∷ 0 ∷ 1 ∷ 1 ∷ 0 ∷ 2 ∷ 2 ∷ 0 ∷ 0 ∷ [])) (pos 2) (nums (2 ∷ 2 ∷ 0 ∷ 1 ∷ 1 ∷ [])) 1802 ≡ refused 5
+unfolding askFindNnzIndices
+e54 = refl
+
+e55 : askFindNnzIndices (nums (2 ∷ 0 ∷ 2 ∷ 3 ∷ 3 ∷ 3 ∷ 0 ∷ 1 ∷ 1 ∷ 0 ∷ 2 ∷ 2 ∷ 0 ∷ 0 ∷ [])) (pos 1) (nums (2 ∷ 2 ∷ 0 ∷ 1 ∷ [])) 1802 ≡ refused 5
+unfolding askFindNnzIndices
+e55 = refl
+
+e56 : askFindNnzIndices (nums (2 ∷ 0 ∷ 2 ∷ 3 ∷ 3 ∷ 3 ∷ 0 ∷ 1 ∷ 1 ∷ 0 ∷ 2 ∷ 2 ∷ 0 ∷ 0 ∷ [])) (pos 1) (pos 2 ∷ negsuc 0 ∷ []) 1802 ≡ refused 5
+unfolding askFindNnzIndices
+e56 = refl
+
+e57 : askFindNnzIndices (nums (2 ∷ 0 ∷ 2 ∷ 3 ∷ 3 ∷ 3 ∷ 0 ∷ 1 ∷ 1 ∷ 0 ∷ 2 ∷ 2 ∷ 0 ∷ 0 ∷ [])) (pos 1) (nums (2 ∷ 65536 ∷ [])) 1802 ≡ refused 5
+unfolding askFindNnzIndices
+e57 = refl
+
+-- findNnzIndicesCall: answered
+e58 : askFindNnzIndices (nums (2 ∷ 0 ∷ 2 ∷ 3 ∷ 3 ∷ 3 ∷ 0 ∷ 1 ∷ 1 ∷ 0 ∷ 2 ∷ 2 ∷ 0 ∷ 0 ∷ [])) (pos 1) (nums (2 ∷ 65535 ∷ [])) 1802 ≡ given (negsuc 0 ∷ [])
+unfolding askFindNnzIndices
+e58 = refl
+
+-- findNnzIndicesCall: refused 4
+e59 : askFindNnzIndices (nums (2 ∷ 0 ∷ 2 ∷ 3 ∷ 3 ∷ 2 ∷ 1 ∷ 0 ∷ 0 ∷ 1 ∷ 0 ∷ 0 ∷ [])) (pos 1) (pos 2 ∷ negsuc 0 ∷ []) 1802 ≡ refused 4
+unfolding askFindNnzIndices
+e59 = refl
+
+e60 : askFindNnzIndices (nums (2 ∷ 0 ∷ 2 ∷ 3 ∷ 3 ∷ 2 ∷ 1 ∷ 0 ∷ 0 ∷ 1 ∷ 0 ∷ 0 ∷ [])) (pos 1) (nums (0 ∷ 1 ∷ [])) 1802 ≡ refused 4
+unfolding askFindNnzIndices
+e60 = refl
+
+-- findNnzIndicesCall: refused 3
+e61 : askFindNnzIndices (nums (2 ∷ 0 ∷ 1 ∷ 3 ∷ 2 ∷ 1 ∷ [])) (pos 1) (negsuc 0 ∷ []) 1802 ≡ refused 3
+unfolding askFindNnzIndices
+e61 = refl
+
+-- findNnzIndicesCall: refused 1
+e62 : askFindNnzIndices (nums (2 ∷ 0 ∷ 5 ∷ [])) (pos 1) (negsuc 0 ∷ []) 0 ≡ refused 1
+unfolding askFindNnzIndices
+e62 = refl
+
+-- findNnzIndicesCall: refused 2
+e63 : askFindNnzIndices (nums (2 ∷ 0 ∷ 2 ∷ 3 ∷ 3 ∷ 3 ∷ 0 ∷ 1 ∷ 1 ∷ 0 ∷ 2 ∷ 2 ∷ 0 ∷ 0 ∷ [])) (pos 1) (nums (2 ∷ 2 ∷ [])) 1801 ≡ refused 2
+unfolding askFindNnzIndices
+e63 = refl
+
+e64 : askFindNnzIndices (nums (2 ∷ 0 ∷ 1 ∷ 3 ∷ 2 ∷ 1 ∷ [])) (negsuc 0) [] 1801 ≡ refused 2
+unfolding askFindNnzIndices
+e64 = refl
+
+-- findNnzIndicesCall: answered
+e65 : askFindNnzIndices (nums (2 ∷ 0 ∷ 2 ∷ 3 ∷ 3 ∷ 3 ∷ 0 ∷ 1 ∷ 1 ∷ 0 ∷ 2 ∷ 2 ∷ 0 ∷ 0 ∷ [])) (pos 1) (nums (2 ∷ 2 ∷ [])) 1803 ≡ given (nums (2 ∷ []))
+unfolding askFindNnzIndices
+e65 = refl
