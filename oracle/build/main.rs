@@ -9,6 +9,7 @@ use std::{env, fs, process};
 const PINNED: &str = "sources.txt";
 const FOLDER: &str = "DIFFSL_SRC";
 const DEFAULT_FOLDER: &str = "../../shared/docs/src";
+const ARCHIVE: &str = "PORT_ARCHIVE";
 
 /// Brings in every pinned source, or ends the build with the reason.
 fn main() {
@@ -24,6 +25,16 @@ fn main() {
         println!("cargo:rerun-if-changed={}", folder.join(name).display());
         let bytes = checked(&folder.join(name), digest);
         fs::write(out.join(name), bytes).unwrap_or_else(|e| fail(format!("{name}: {e}")));
+    }
+    link_port();
+}
+
+/// Hands the port's archive, where one is named, to the linker of the program `speed` alone.
+fn link_port() {
+    println!("cargo:rerun-if-env-changed={ARCHIVE}");
+    if let Ok(archive) = env::var(ARCHIVE) {
+        println!("cargo:rerun-if-changed={archive}");
+        println!("cargo:rustc-link-arg-bin=speed={archive}");
     }
 }
 
