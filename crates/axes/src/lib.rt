@@ -1,5 +1,5 @@
-// Extents in a slice, and indices over them. A shape is a slice, the place of its first extent and its rank, wherever it stands: in a
-// record, in an argument, in a part of the working buffer.
+// Extents in a slice, indices over them, and rows held against them and told apart by their numbers. A shape is a slice, the place of its
+// first extent and its rank, wherever it stands: in a record, in an argument, in a part of the working buffer.
 ghost use mathlib.Core.Path.{_≡_};
 ghost use mathlib.Core.List.{map};
 ghost use Prim.Native.Nat.{_+_, _≤_};

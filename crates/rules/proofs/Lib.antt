@@ -19,7 +19,7 @@
 --     Giving, Unchanged, Folding, BroadcastEnds, BroadcastHolds    a broadcast: what is stretched, folded in order, its end, and what it holds
 --     StretchedTogether, StretchedModes                            the two modes of stretching: what each lists, what both share
 --     MovedBy, Blocks, ConcatenateMade, JoinHolds                  blocks: what is moved by a start, what they have in common, what is made of them, and what a join holds
---     Calls                                                        what calls answer of sound records
+--     Calls, FoundAll                                              what calls answer of sound records, and of many indices at once
 --     Piled, PiledPairs, Summing, ExchangeMade, ExchangeKeeps,
 --     Piles                                                        the pile: any exchanges keep its counts
 --     Slots, PileRecords, RecordPiles                              the same of records in the slots of a slice
