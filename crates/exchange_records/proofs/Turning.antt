@@ -13,8 +13,7 @@ use Rattle.rules.specs.declared.Step.the-variants.{Done, Refused}
 use Rattle.rules.specs.Limits.{workSize}
 use Rattle.rules.specs.Refusals.{Verdict, given, refused, inForm, numberOf}
 use Rattle.cells.proofs.Signed.{held, back}
-use Rattle.rules.specs.Pile.{givenOr, exchangeCall}
-use Rattle.pile.specs.Exchanging.{exchangeSays, Exchanged}
+use Rattle.rules.specs.Pile.{givenOr, exchangeCall, exchangeSays, Exchanged}
 use Rattle.pile.proofs.Going.{two-there}
 use Rattle.record_text.specs.Lines.{refusedText}
 use Rattle.record_text.specs.Fronts.{Front}

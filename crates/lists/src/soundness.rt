@@ -9,6 +9,7 @@ ghost use Rattle.lists.specs.Records.{JudgedRecord};
 use super::asks::Ask;
 use super::asks::all_pass;
 use super::walking::moved;
+use rules::Walk;
 
 // Whether one of n records has more than 4 axes.
 pub fn over_axes(list: &[i32], records: [usize; 16], n: usize) -> bool
@@ -27,9 +28,9 @@ pub fn all_sound(s: &[i32], places: [usize; 16], n: usize) -> bool
 {
     for i in 0..n {
         let at = places[i];
-        if !records::sound(&s[at..]) {
+        let Walk::To(_) = records::sound_head(&s[at..]) else {
             return false;
-        }
+        };
     }
     true
 }

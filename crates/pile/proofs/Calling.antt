@@ -18,9 +18,9 @@ use Rattle.rules.specs.Arguments.{overRecord}
 use Rattle.rules.specs.Endings.{workAfter}
 use Rattle.rules.specs.Union.{union, unionCall}
 use Rattle.rules.specs.Intersect.{intersect, intersectCall}
-use Rattle.rules.specs.Pile.{areTwoPlaces, exchangeCall}
+use Rattle.rules.specs.Pile.{areTwoPlaces, exchangeCall, Exchanged}
 use Rattle.pile.specs.Slots.{TwoSlots}
-use Rattle.pile.specs.Exchanging.{Both, bothOf, withBoth, slotsCall, Exchanged}
+use Rattle.pile.specs.Exchanging.{Both, bothOf, withBoth, slotsCall}
 
 -- two calls on the same records one after the other: what both judge is judged once
 one-judging : (over sound ordered : Bool) (u i : Verdict Layout) (f : Both → List ℤ) →

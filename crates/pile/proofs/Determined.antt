@@ -7,9 +7,8 @@ use Rattle.rules.specs.declared.Number.the-variants.{Refused as NoNumber}
 use Rattle.rules.specs.declared.Step.{Step}
 use Rattle.rules.specs.declared.Step.the-variants.{Done, Refused}
 use Rattle.rules.specs.Refusals.{Verdict, refused, numberOf}
-use Rattle.rules.specs.Pile.{Exchanges}
+use Rattle.rules.specs.Pile.{Exchanges, exchangeSays, Exchanged, AllExchanged}
 use Rattle.rules.proofs.Determined.{number-determined}
-use Rattle.pile.specs.Exchanging.{exchangeSays, Exchanged, AllExchanged}
 
 step-determined : (r r′ : Step) → exchangeSays r ≡ exchangeSays r′ → r ≡ r′
 step-determined Done Done e = refl

@@ -21,7 +21,8 @@ use Rattle.parts.specs.Parts.{target, layoutAt}
 use Rattle.parts.proofs.Ending.{Late, call-refused}
 use Rattle.parts.proofs.Lent.{lentOf}
 use Rattle.judging.proofs.SoundRecords.{over-first, over-second, NoneOver}
-use Rattle.pile.specs.Exchanging.{sixth, bothOf, BothMade, withBoth, slotsCall, Exchanged}
+use Rattle.rules.specs.Pile.{Exchanged}
+use Rattle.pile.specs.Exchanging.{sixth, bothOf, BothMade, withBoth, slotsCall}
 use Rattle.pile.proofs.Late.{late-both}
 
 -- a working buffer that was written and cleared, behind a refusal above 2

@@ -27,8 +27,7 @@ use Rattle.rules.proofs.Buffers.{length-zeros, put-front}
 use Rattle.cells.proofs.Signed.{held, back}
 use Rattle.tables.specs.Tables.{Only}
 use Rattle.tables.proofs.Only.{only-same, only-then, only-put}
-use Rattle.rules.specs.Pile.{Exchanges, givenOr, oneMore, exchangeCall, exchangesFrom, exchangeAllCall}
-use Rattle.pile.specs.Exchanging.{Exchanged, AllExchanged}
+use Rattle.rules.specs.Pile.{Exchanges, givenOr, oneMore, exchangeCall, exchangesFrom, exchangeAllCall, Exchanged, AllExchanged}
 use Rattle.pile.proofs.Exchanging.{given-clear}
 
 -- one of two

@@ -8,6 +8,7 @@
 --     Calling      that it is what `exchangeCall` asks
 --     Going        exchanges one after the other
 --     Determined   two outcomes that a contract allows are equal
+--     PileKept     what exchanges keep of a pile, by the contracts
 pub mod Places
 pub mod Storing
 pub mod Uniting
@@ -17,3 +18,4 @@ pub mod Exchanging
 pub mod Calling
 pub mod Going
 pub mod Determined
+pub mod PileKept

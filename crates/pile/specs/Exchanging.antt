@@ -1,10 +1,9 @@
--- What is made of two records before the pile is written, and how an exchange ends.
+-- What is made of two records before the pile is written.
 use mathlib.Core.Path.{_≡_}
 use mathlib.Core.Bool.{not, _&&_, _||_}
 use mathlib.Core.List.{List, [], _∷_}
 use Prim.Native.Nat.{ℕ}
 use lib.IntN.{ℤ}
-use Rattle.rules.specs.declared.Number.{Number}
 use Rattle.rules.specs.declared.Step.{Step}
 use Rattle.rules.specs.declared.Step.the-variants.{Done, Refused}
 use Rattle.rules.specs.Limits.{resultSize, workSize}
@@ -13,13 +12,11 @@ use Rattle.rules.specs.Refusals.{Verdict, given, refused, inForm, numberOf, _th
 use Rattle.rules.specs.Layout.{Layout, encode}
 use Rattle.rules.specs.Record.{layoutIn, sound, ordered}
 use Rattle.rules.specs.Arguments.{overRecord}
-use Rattle.rules.specs.Endings.{numberSays, workAfter}
 use Rattle.rules.specs.Union.{union}
 use Rattle.rules.specs.Intersect.{intersect}
 use Rattle.tables.specs.Tables.{Only}
 use Rattle.parts.specs.Parts.{left, right, target, layoutAt, Holds, Window}
 use Rattle.parts.specs.Answers.{Says}
-use Rattle.rules.specs.Pile.{Exchanges, givenOr}
 
 -- ---- two records
 
@@ -73,20 +70,3 @@ slotsCall pile a b =
     let s : List ℤ = part a resultSize pile in
     let t : List ℤ = part b resultSize pile in
     lowest (1 when (overRecord s || overRecord t) ∷ []) then λ _. inForm (withBoth a b pile) (bothOf s t)
-
--- whether an exchange was made, or its refusal
-abbrev pub exchangeSays : Step → Verdict Unit
-exchangeSays Done = given tt
-exchangeSays (Refused why) = refused (numberOf why)
-
--- the end of an exchange: its answer, the pile, which stays where it is refused, and the working buffer
-pub record Exchanged (v : Verdict (List ℤ)) (pile work : List ℤ) (r : Step) (pile′ work′ : List ℤ) : Type 0 where
-  pub answer : exchangeSays r ≡ inForm (λ _. tt) v
-  pub pile-is : pile′ ≡ givenOr pile v
-  pub work-is : work′ ≡ workAfter v work
-
--- the end of many: how many were made, the pile after them, and the working buffer
-pub record AllExchanged (v : Verdict Exchanges) (pile work : List ℤ) (r : Number) (pile′ work′ : List ℤ) : Type 0 where
-  pub answer : numberSays r ≡ inForm (λ e. e .made) v
-  pub pile-is : pile′ ≡ givenOr pile (inForm (λ e. e .pile) v)
-  pub work-is : work′ ≡ workAfter (inForm (λ e. e .pile) v) work

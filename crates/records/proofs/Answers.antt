@@ -27,7 +27,7 @@ use Rattle.cells.specs.View.{view, Low, signOf}
 use Rattle.cells.proofs.Signed.{held, back}
 use Rattle.records.specs.declared.Fit.{Fit}
 use Rattle.records.specs.declared.Fit.the-variants.{Unfit}
-use Rattle.records.specs.Slices.{BeginsAt}
+use Rattle.rules.specs.Endings.{BeginsAt}
 use Rattle.records.specs.Heads.{HeadOf}
 use Rattle.records.specs.Judging.{Readable, fewEntries, fitOf, rowsIncrease}
 use Rattle.records.specs.Sound.{SoundRecord, soundHead}

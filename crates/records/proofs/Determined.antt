@@ -4,7 +4,7 @@ use mathlib.Core.List.{List}
 use denote.Ref.{RefT, now}
 use lib.IntN.{ℤ}
 use Rattle.rules.specs.Record.{row, rowPlace}
-use Rattle.records.specs.Slices.{BeginsAt}
+use Rattle.rules.specs.Endings.{BeginsAt}
 
 -- they begin at one place and have the same numbers, as many of them; a reference has nothing else that a program can see
 pub row-determined : (s : RefT (List ℤ)) (n : ℤ) (r r′ : RefT (List ℤ)) →

@@ -3,5 +3,4 @@ pub mod Heads
 pub mod Judging
 pub mod Sound
 pub mod EndToEnd
-pub mod Slices
 pub mod Readers

@@ -17,10 +17,10 @@ ghost use Rattle.rules.specs.Arguments.{overRecord};
 ghost use Rattle.cells.specs.View.{view, Low};
 ghost use Rattle.tables.specs.Rows.{rowsAt, HasRow, HasRows};
 ghost use Rattle.axes.specs.Extents.{Extents};
-ghost use Rattle.records.specs.Slices.{BeginsAt};
+ghost use Rattle.rules.specs.Endings.{BeginsAt};
 ghost use Rattle.records.specs.Sections.{SectionIn};
 ghost use Rattle.records.specs.Heads.{HeadOf};
-ghost use Rattle.records.specs.Judging.{Readable, ReadableRecord, fewEntries, kindFits, axesFit, rowsFit, small, smallDeps, fitOf, rowsIncrease, ReadableFit};
+ghost use Rattle.records.specs.Judging.{Readable, fewEntries, kindFits, axesFit, rowsFit, small, smallDeps, fitOf, rowsIncrease, ReadableFit};
 ghost use Rattle.records.specs.Sound.{SoundRecord, soundHead, ReadableHead, Found};
 use cells::Sign;
 use rules::Entries;
@@ -345,10 +345,9 @@ pub fn sound_head(s: &[i32]) -> Walk
     }
 }
 
-// Whether the record at the front of a slice is sound; if so, it is readable.
+// Whether the record at the front of a slice is sound.
 pub fn sound(s: &[i32]) -> bool
-    ensures is { λ r. ⌜ r ≡ sound (now (s .entry)) ⌝ }
-    ensures readable { λ r. ⌜ (r ≡ true → ReadableRecord (now (s .entry))) ⌝ }
+    ensures { λ r. ⌜ r ≡ sound (now (s .entry)) ⌝ }
 {
     match judged(s) {
         Finding::Sound(_, _) => true,

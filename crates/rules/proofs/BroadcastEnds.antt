@@ -9,10 +9,10 @@ use borrow.Author.Tests.{eq-eqb, eqb-true, eqb-false, ne-eqb}
 use lib.Dec.{eqb}
 use lib.ListN.{length, getD}
 use Rattle.rules.specs.declared.Ordering.the-variants.{Less}
-use Rattle.rules.specs.Lists.{all, product}
+use Rattle.rules.specs.Lists.{if, all, product}
 use Rattle.rules.specs.RowsInOrder.{cmpRows, sorted, Each, Increasing}
-use Rattle.rules.specs.Refusals.{given, refused, lowest}
-use Rattle.rules.specs.Layout.{Layout, rank, width, isSparse, alike}
+use Rattle.rules.specs.Refusals.{given, refused, _when_, lowest}
+use Rattle.rules.specs.Layout.{Layout, rank, width, isSparse, alike, made}
 use Rattle.rules.specs.Soundness.{Sound}
 use Rattle.rules.specs.CountsAndForms.{toDense}
 use Rattle.rules.specs.Broadcast.{isDiagonalInRows, asDiagonal, endOfBroadcast}
@@ -20,6 +20,7 @@ use Rattle.rules.proofs.Same.{both-true}
 use Rattle.rules.proofs.Sets.{head-least, each-head, each-tail}
 use Rattle.rules.proofs.Sorting.{sorted-increasing, sorted-each}
 use Rattle.rules.proofs.Alike.{alike-take}
+use Rattle.rules.proofs.Giving.{Giving, giving-if, giving-step, giving-made}
 use Rattle.rules.proofs.Forming.{Framed, sound-framed, diagonal-framed, formed-sound, sound-given}
 
 -- ---- sound layouts
@@ -114,3 +115,12 @@ module _ (l : Layout) where
         pub end-diagonal : Sound l → isDiagonalInRows l ≡ true → endOfBroadcast l ≡ given (asDiagonal l)
         unfolding endOfBroadcast lowest
         end-diagonal s e = rw (sparse, not-full, ne-eqb (rank l) 0 some, e) (sound-given (diagonal-sound s not-full (omega arith) e))
+
+-- what holds of a layout, of it turned dense and of it as a diagonal, if that is sound, holds of what it ends as
+pub end-such : (P : Layout → Type 0) (l : Layout) → P l → P (toDense l) → (Sound (asDiagonal l) → P (asDiagonal l)) → Giving P (endOfBroadcast l)
+unfolding endOfBroadcast
+end-such P l p q r =
+    giving-if P (not (isSparse l)) _ _ (λ _. p)
+    (λ _. giving-if P (eqb (length (l .rows)) (product (l .shape))) _ _ (λ _. q)
+    (λ _. giving-step P (12 when eqb (rank l) 0 ∷ []) (if (isDiagonalInRows l) (made (asDiagonal l)) (given l))
+    (giving-if P (isDiagonalInRows l) (made (asDiagonal l)) (given l) (λ _. giving-made P (asDiagonal l) r) (λ _. p))))

@@ -1,30 +1,27 @@
 -- What a broadcast gives is sound, and holds what one of the stretched layouts holds, or what all of them do, as the operator asks. Assumes nothing.
 use mathlib.Core.Path.{_≡_, refl, sym, ap, _∙_}
-use mathlib.Core.Bool.{Bool, true, false, not, _&&_, _||_}
-use mathlib.Core.List.{List, [], _∷_, _++_, map, reverse, reverse-cons, Memᴰ·map}
-use Prim.Native.Nat.{ℕ, _+_, _<_}
+use mathlib.Core.Bool.{Bool, true, false, not, _&&_, and-comm, or-comm, and-true, or-false}
+use mathlib.Core.List.{List, [], _∷_, map, Memᴰ·map}
+use Prim.Native.Nat.{ℕ, _<_}
 use native.Mathlib.Omega.{arith}
 use borrow.Author.Tests.{eqb-true, eqb-false, not-false}
-use lib.Dec.{eqb, ltb}
+use lib.Dec.{eqb}
 use lib.ListN.{length, getD, take, replicate, length-take, length-map}
 use lib.Seq.{getD-take}
 use Rattle.rules.specs.declared.Mode.{Mode}
 use Rattle.rules.specs.declared.Rule.{Rule}
 use Rattle.rules.specs.declared.Rule.the-variants.{Unite, Multiply, Divide}
-use Rattle.rules.specs.Lists.{if, all, any, none, below, product}
+use Rattle.rules.specs.Lists.{if, all, any, below, product}
 use Rattle.rules.specs.RowsInOrder.{In}
-use Rattle.rules.specs.Refusals.{Verdict, given, refused, _then_, _when_, lowest}
-use Rattle.rules.specs.Layout.{Layout, rank, width, isSparse, alike, withinProduct, soundLayout, made}
+use Rattle.rules.specs.Refusals.{given, _then_, _when_, lowest}
+use Rattle.rules.specs.Layout.{Layout, rank, width, isSparse, alike, made}
 use Rattle.rules.specs.Soundness.{Sound}
 use Rattle.rules.specs.Holding.{isPosition, holds}
 use Rattle.rules.specs.Intersect.{intersect}
-use Rattle.rules.specs.Shapes.{shapesAgree, commonShape, broadcastShapes}
-use Rattle.rules.specs.Stretching.{sharedAxesFit, stretched, broadcastToShape}
-use Rattle.rules.specs.Broadcast.{combine, stretchAll, dividesBySparse, foldOnto, foldBack, isDiagonalInRows, asDiagonal, endOfBroadcast, broadcast}
+use Rattle.rules.specs.Broadcast.{combine, isDiagonalInRows, asDiagonal, endOfBroadcast, broadcast}
 use Rattle.rules.proofs.Same.{both-true, decided}
 use Rattle.rules.proofs.Sorting.{sorted-increasing, sorted-each, sorted-only}
 use Rattle.rules.proofs.Tests.{true-both, all-each}
-use Rattle.rules.proofs.Soundness.{sound-true, true-sound}
 use Rattle.rules.proofs.Ranges.{from-length, from-has}
 use Rattle.rules.proofs.Alike.{alike-replicate}
 use Rattle.rules.proofs.Low.{below-at}
@@ -33,9 +30,11 @@ use Rattle.rules.proofs.Unions.{union-sound}
 use Rattle.rules.proofs.UnionHolds.{union-holds}
 use Rattle.rules.proofs.Full.{full-has, full-holds}
 use Rattle.rules.proofs.IntersectHolds.{intersect-sound, intersect-holds}
-use Rattle.rules.proofs.Giving.{Giving, given-such, giving-if, giving-then, giving-step, giving-made}
+use Rattle.rules.proofs.Giving.{Giving, given-such, giving-if, giving-made}
+use Rattle.rules.proofs.Given.{stretch-sound}
+use Rattle.rules.proofs.BroadcastSteps.{sharedShape, stretchedTo, Steps, broadcast-steps, steps-such}
 use Rattle.rules.proofs.Forming.{to-dense-sound}
-use Rattle.rules.proofs.BroadcastEnds.{rows-wide}
+use Rattle.rules.proofs.BroadcastEnds.{end-such, rows-wide}
 
 -- an index is held by one of the layouts, or by all of them
 abbrev pub heldBy : Rule → List Layout → List ℕ → Bool
@@ -43,137 +42,31 @@ heldBy Unite layouts index = any (λ l. holds l index) layouts
 heldBy Multiply layouts index = all (λ l. holds l index) layouts
 heldBy Divide layouts index = all (λ l. holds l index) layouts
 
--- ---- tests of a list, backwards
-
-module _ {A : Type 0} (test : A → Bool) where
-  all-last : (l : List A) (x : A) → all test (l ++ (x ∷ [])) ≡ test x && all test l
-  unfolding all
-  all-last [] x = refl
-  all-last (y ∷ l) x = rw (all-last l x) (swap (test y) (test x) (all test l))
-    where
-      swap : (a b c : Bool) → a && (b && c) ≡ b && (a && c)
-      swap true true c = refl
-      swap true false c = refl
-      swap false true c = refl
-      swap false false c = refl
-
-  any-last : (l : List A) (x : A) → any test (l ++ (x ∷ [])) ≡ test x || any test l
-  unfolding any
-  any-last [] x = refl
-  any-last (y ∷ l) x = rw (any-last l x) (swap (test y) (test x) (any test l))
-    where
-      swap : (a b c : Bool) → a || (b || c) ≡ b || (a || c)
-      swap true true c = refl
-      swap true false c = refl
-      swap false true c = refl
-      swap false false c = refl
-
-  all-reverse : (l : List A) → all test (reverse l) ≡ all test l
-  unfolding all
-  all-reverse [] = refl
-  all-reverse (x ∷ l) = ap (all test) (reverse-cons x l) ∙ all-last (reverse l) x ∙ rw (all-reverse l)
-
-  any-reverse : (l : List A) → any test (reverse l) ≡ any test l
-  unfolding any
-  any-reverse [] = refl
-  any-reverse (x ∷ l) = ap (any test) (reverse-cons x l) ∙ any-last (reverse l) x ∙ rw (any-reverse l)
-
-held-reverse : (rule : Rule) (layouts : List Layout) (index : List ℕ) → heldBy rule (reverse layouts) index ≡ heldBy rule layouts index
-held-reverse Unite layouts index = any-reverse (λ l. holds l index) layouts
-held-reverse Multiply layouts index = all-reverse (λ l. holds l index) layouts
-held-reverse Divide layouts index = all-reverse (λ l. holds l index) layouts
-
 -- ---- folds
 
 -- a sound layout that holds what these layouts hold
 abbrev HoldsOf : Rule → List Layout → Layout → Type 0
 HoldsOf rule layouts x = Sound x × ((index : List ℕ) → holds x index ≡ heldBy rule layouts index)
 
--- one test with nothing else
-or-none : (t : Bool) → t ≡ t || false
-or-none true = refl
-or-none false = refl
-
-and-none : (t : Bool) → t ≡ t && true
-and-none true = refl
-and-none false = refl
-
--- two tests with others
-or-others : (s t u : Bool) → (s || t) || u ≡ s || (t || u)
-or-others true t u = refl
-or-others false t u = refl
-
-and-others : (s t u : Bool) → (s && t) && u ≡ s && (t && u)
-and-others true t u = refl
-and-others false t u = refl
-
 -- one layout
 alone-holds : (rule : Rule) (l : Layout) (index : List ℕ) → holds l index ≡ heldBy rule (l ∷ []) index
 unfolding all any
-alone-holds Unite l index = or-none (holds l index)
-alone-holds Multiply l index = and-none (holds l index)
-alone-holds Divide l index = and-none (holds l index)
+alone-holds Unite l index = sym (or-false (holds l index))
+alone-holds Multiply l index = sym (and-true (holds l index))
+alone-holds Divide l index = sym (and-true (holds l index))
 
--- two layouts combined hold with others what they hold
-met-holds : {a b x : Layout} → Sound a → Sound b → intersect a b ≡ given x → (layouts : List Layout) (index : List ℕ) →
-    all (λ l. holds l index) (x ∷ layouts) ≡ all (λ l. holds l index) (a ∷ b ∷ layouts)
-unfolding all
-met-holds {a} {b} p q e layouts index = rw (intersect-holds (p .form) (q .form) e index) (and-others (holds a index) (holds b index) (all (λ l. holds l index) layouts))
-
-combine-holds : (rule : Rule) {a b x : Layout} → Sound a → Sound b → combine rule a b ≡ given x →
-    Sound x × ((layouts : List Layout) (index : List ℕ) → heldBy rule (x ∷ layouts) index ≡ heldBy rule (a ∷ b ∷ layouts) index)
-unfolding combine any
-combine-holds Unite {a} {b} p q e =
-    (union-sound a b e, λ layouts index. rw (union-holds (p .form) (q .form) e index) (or-others (holds a index) (holds b index) (any (λ l. holds l index) layouts)))
-combine-holds Multiply {a} {b} p q e = (intersect-sound a b e, met-holds p q e)
-combine-holds Divide {a} {b} p q e = (intersect-sound a b e, met-holds p q e)
-
--- a list of sound layouts
-abbrev Sounds : List Layout → Type 0
-Sounds layouts = all soundLayout layouts ≡ true
-
--- what holds of an answer, said otherwise
-giving-as : {A : Type 0} (P Q : A → Type 0) (v : Verdict A) → Giving P v → ((a : A) → P a → Q a) → Giving Q v
-giving-as P Q (given a) p f = f a p
-giving-as P Q (refused n) p f = tt
-
-fold-holds : (rule : Rule) (l : Layout) (layouts : List Layout) → Sound l → Sounds layouts → Giving (HoldsOf rule (l ∷ layouts)) (foldOnto rule l layouts)
-unfolding foldOnto all
-fold-holds rule l [] p q = (p, alone-holds rule l)
-fold-holds rule l (next ∷ layouts) p q =
-    let h = both-true (soundLayout next) (all soundLayout layouts) q in
-    by (combine rule l next) refl (λ x s. fold-holds rule x layouts s (h .1)) (sound-true (h .0))
+-- two layouts combined, of which the first holds what others do, hold what the second and those do
+combine-holds : (rule : Rule) (done : List Layout) (a b x : Layout) → HoldsOf rule done a → Sound b → combine rule a b ≡ given x → HoldsOf rule (b ∷ done) x
+unfolding combine any all
+combine-holds rule done a b x p q e = by rule (p .1) e
   where
-    by : (v : Verdict Layout) → combine rule l next ≡ v → ((x : Layout) → Sound x → Giving (HoldsOf rule (x ∷ layouts)) (foldOnto rule x layouts)) → Sound next →
-        Giving (HoldsOf rule (l ∷ next ∷ layouts)) (v then λ x. foldOnto rule x layouts)
-    by (given x) e rest n =
-        let c = combine-holds rule p n e in
-        giving-as (HoldsOf rule (x ∷ layouts)) (HoldsOf rule (l ∷ next ∷ layouts)) (foldOnto rule x layouts) (rest x (c .0)) (λ y r. (r .0, λ index. r .1 index ∙ c .1 layouts index))
-    by (refused n) e rest s = tt
+    met : ((index : List ℕ) → holds a index ≡ all (λ l. holds l index) done) → intersect a b ≡ given x → HoldsOf Multiply (b ∷ done) x
+    met h e = (intersect-sound a b e, λ index. intersect-holds (p .0 .form) (q .form) e index ∙ and-comm (holds a index) (holds b index) ∙ rw (h index))
 
-back-holds : (rule : Rule) (layouts : List Layout) → Sounds layouts → Giving (HoldsOf rule layouts) (foldBack rule layouts)
-unfolding foldBack all
-back-holds rule [] p = tt
-back-holds rule (last ∷ []) p = (sound-true (both-true (soundLayout last) true p .0), alone-holds rule last)
-back-holds rule (last ∷ next ∷ layouts) p =
-    let h = both-true (soundLayout last) (soundLayout next && all soundLayout layouts) p in
-    giving-step (HoldsOf rule (last ∷ next ∷ layouts)) (9 when dividesBySparse rule last next ∷ []) (foldOnto rule last (next ∷ layouts)) (fold-holds rule last (next ∷ layouts) (sound-true (h .0)) (h .1))
-
--- ---- stretchings
-
-one-stretched : (mode : Mode) (l : Layout) (shape : List ℕ) → Giving (λ x. (x ≡ stretched mode l shape) × Sound x) (broadcastToShape mode l shape)
-unfolding broadcastToShape
-one-stretched mode l shape =
-    giving-step (λ x. (x ≡ stretched mode l shape) × Sound x) (6 when not (sharedAxesFit (l .shape) shape) ∷ 11 when ltb (l .dense + length shape) (rank l) ∷ []) _
-    (giving-made (λ x. (x ≡ stretched mode l shape) × Sound x) (stretched mode l shape) (λ s. (refl, s)))
-
-all-stretched : (mode : Mode) (shape : List ℕ) (layouts : List Layout) → Giving (λ l. (l ≡ map (λ x. stretched mode x shape) layouts) × Sounds l) (stretchAll mode shape layouts)
-unfolding stretchAll all
-all-stretched mode shape [] = (refl, refl)
-all-stretched mode shape (l ∷ layouts) =
-    giving-then _ (λ x. (x ≡ stretched mode l shape) × Sound x) (broadcastToShape mode l shape) _ (one-stretched mode l shape)
-    (λ first p. giving-then _ (λ k. (k ≡ map (λ x. stretched mode x shape) layouts) × Sounds k) (stretchAll mode shape layouts) _ (all-stretched mode shape layouts)
-    (λ others q. (rw (p .0, q .0), true-both (true-sound (p .1)) (q .1))))
+    by : (rule : Rule) → ((index : List ℕ) → holds a index ≡ heldBy rule done index) → combine rule a b ≡ given x → HoldsOf rule (b ∷ done) x
+    by Unite h e = (union-sound a b e, λ index. union-holds (p .0 .form) (q .form) e index ∙ or-comm (holds a index) (holds b index) ∙ rw (h index))
+    by Multiply h e = met h e
+    by Divide h e = met h e
 
 -- ---- the end
 
@@ -227,7 +120,7 @@ module _ {l : Layout} (s : Sound l) (k : l .kind ≡ 2) (not-full : eqb (length 
           holds-diagonal (asDiagonal l) index refl ∙ true-both (true-position (r .0)) (all-each alike (rows-told .1) (take (width l) index) (r .1))
 
 -- the end changes nothing in what is held
-end-holds : {l : Layout} → Sound l → Giving (λ x. (index : List ℕ) → holds x index ≡ holds l index) (endOfBroadcast l)
+pub end-holds : {l : Layout} → Sound l → Giving (λ x. (index : List ℕ) → holds x index ≡ holds l index) (endOfBroadcast l)
 unfolding endOfBroadcast lowest
 end-holds {l} s =
     giving-if P (not (isSparse l)) _ _ (λ _ index. refl)
@@ -251,47 +144,26 @@ end-holds {l} s =
 
 -- and leaves a sound layout sound
 end-sound : {l : Layout} → Sound l → Giving Sound (endOfBroadcast l)
-unfolding endOfBroadcast
-end-sound {l} s =
-    giving-if Sound (not (isSparse l)) _ _ (λ _. s)
-    (λ _. giving-if Sound (eqb (length (l .rows)) (product (l .shape))) _ _ (λ _. to-dense-sound s)
-    (λ _. giving-step Sound (12 when eqb (rank l) 0 ∷ []) (if (isDiagonalInRows l) (made (asDiagonal l)) (given l))
-    (giving-if Sound (isDiagonalInRows l) (made (asDiagonal l)) (given l) (λ _. giving-made Sound (asDiagonal l) (λ t. t)) (λ _. s))))
+end-sound {l} s = end-such Sound l s (to-dense-sound s) (λ t. t)
 
 -- ---- the broadcast
 
--- the shape that is given is the common one
-common-given : (shapes : List (List ℕ)) → Giving (λ shape. shape ≡ commonShape shapes) (broadcastShapes shapes)
-unfolding broadcastShapes
-common-given shapes =
-    giving-step (λ shape. shape ≡ commonShape shapes) (6 when (none shapes || not (shapesAgree shapes)) ∷ 13 when not (withinProduct (commonShape shapes)) ∷ [])
-    (given (commonShape shapes)) refl
+module _ (mode : Mode) (layouts : List Layout) (rule : Rule) {l : Layout} (e : broadcast mode layouts rule ≡ given l) where
+  -- the fold of the stretched layouts is a sound layout that holds what they hold
+  whole-holds : (s : Steps mode layouts rule (sharedShape layouts) l) → HoldsOf rule (stretchedTo mode (sharedShape layouts) layouts) (s .whole)
+  whole-holds s =
+      steps-such s Sound (HoldsOf rule) (combine-holds rule) (λ x h. (h, alone-holds rule x))
+      (λ a i. stretch-sound mode a (sharedShape layouts) (s .stretches a i))
 
--- what a broadcast gives is what the end makes of a sound layout that holds what the stretched ones hold
-broadcast-folds : (mode : Mode) (layouts : List Layout) (rule : Rule) (P : Layout → Type 0) → ((l : Layout) →
-    HoldsOf rule (map (λ x. stretched mode x (commonShape (map (λ x. x .shape) layouts))) layouts) l → Giving P (endOfBroadcast l)) → Giving P (broadcast mode layouts rule)
-unfolding broadcast
-broadcast-folds mode layouts rule P end =
-    let shapes : List (List ℕ) = map (λ x. x .shape) layouts in
-    giving-then P (λ shape. shape ≡ commonShape shapes) (broadcastShapes shapes) _ (common-given shapes)
-    (λ shape c. giving-then P (λ all. (all ≡ map (λ x. stretched mode x shape) layouts) × Sounds all) (stretchAll mode shape layouts) _ (all-stretched mode shape layouts)
-    (λ all q. giving-then P (HoldsOf rule (reverse all)) (foldBack rule (reverse all)) _ (back-holds rule (reverse all) (all-reverse soundLayout all ∙ q .1))
-    (λ l t. end l (t .0, λ index. t .1 index ∙ held-reverse rule all index ∙ rw (q .0, c)))))
+  -- it is sound
+  pub broadcast-sound : Sound l
+  broadcast-sound =
+      let s = broadcast-steps mode layouts rule e in
+      given-such Sound (endOfBroadcast (s .whole)) (end-sound (whole-holds s .0)) (s .ends)
 
--- it is sound
-pub broadcast-sound : (mode : Mode) (layouts : List Layout) (rule : Rule) {l : Layout} → broadcast mode layouts rule ≡ given l → Sound l
-broadcast-sound mode layouts rule e = given-such Sound (broadcast mode layouts rule) (broadcast-folds mode layouts rule Sound (λ l t. end-sound (t .0))) e
-
--- it holds an index exactly if one of the stretched layouts does, or, by '*' and '/', all of them
-pub broadcast-holds : (mode : Mode) (layouts : List Layout) (rule : Rule) {l : Layout} → broadcast mode layouts rule ≡ given l → (index : List ℕ) →
-    holds l index ≡ heldBy rule (map (λ x. stretched mode x (commonShape (map (λ x. x .shape) layouts))) layouts) index
-broadcast-holds mode layouts rule e = given-such P (broadcast mode layouts rule) (broadcast-folds mode layouts rule P all-hold) e
-  where
-    all : List Layout
-    all = map (λ x. stretched mode x (commonShape (map (λ x. x .shape) layouts))) layouts
-
-    P : Layout → Type 0
-    P l = (index : List ℕ) → holds l index ≡ heldBy rule all index
-
-    all-hold : (l : Layout) → HoldsOf rule all l → Giving P (endOfBroadcast l)
-    all-hold l t = giving-as (λ x. (index : List ℕ) → holds x index ≡ holds l index) P (endOfBroadcast l) (end-holds (t .0)) (λ x h index. h index ∙ t .1 index)
+  -- it holds an index exactly if one of the stretched layouts does, or, by '*' and '/', all of them
+  pub broadcast-holds : (index : List ℕ) → holds l index ≡ heldBy rule (stretchedTo mode (sharedShape layouts) layouts) index
+  broadcast-holds index =
+      let s = broadcast-steps mode layouts rule e in
+      let h = whole-holds s in
+      given-such (λ x. (index : List ℕ) → holds x index ≡ holds (s .whole) index) (endOfBroadcast (s .whole)) (end-holds (h .0)) (s .ends) index ∙ h .1 index

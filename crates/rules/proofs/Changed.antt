@@ -1,5 +1,5 @@
 -- Dependencies whose index is changed and whose number is kept. Assumes nothing.
-use mathlib.Core.Path.{_≡_, _∙_, subst}
+use mathlib.Core.Path.{_≡_, refl, _∙_, subst}
 use mathlib.Core.List.{List, [], _∷_, _++_, map, Memᴰ·of-map}
 use Prim.Native.Nat.{ℕ, zero, suc, _-_, _≤_, _<_}
 use native.Mathlib.Omega.{arith}
@@ -43,6 +43,11 @@ module _ {b : ℕ} where
   append-low (x ∷ p) q f g (suc k) = append-low p q (λ i. f (suc i)) g k
 
 -- ---- one dependency
+
+-- where the first of two lists ends, the second begins
+pub at-seam : (p q : List ℕ) {n : ℕ} → length p ≡ n → getD (p ++ q) n 0 ≡ getD q 0 0
+at-seam [] q e = rw (← e)
+at-seam (x ∷ p) q e = rw (← e) (at-seam p q refl)
 
 module _ (f : List ℕ → List ℕ) (d : List ℕ) where
   -- its numbers are below b, if those of a changed index are

@@ -1,7 +1,7 @@
 -- Which numbers `concatenate` is refused with, and that what it gives is sound. Assumes nothing.
 use mathlib.Core.Path.{_≡_, refl, subst}
 use mathlib.Core.Bool.{not, _&&_}
-use mathlib.Core.List.{List, [], _∷_, _++_, map, List·Memᴰ}
+use mathlib.Core.List.{List, [], _∷_, _++_, map, List·Memᴰ, List·Memᴰ·not-nil}
 use Prim.Native.Nat.{ℕ, suc, _+_, _-_, _^_, _<_, _≤_}
 use native.Mathlib.Omega.{arith}
 use lib.Dec.{ltb}
@@ -10,7 +10,7 @@ use lib.Seq.{getD-drop}
 use Rattle.rules.specs.Limits.{componentLimit}
 use Rattle.rules.specs.Lists.{if, all, any, none, keep, product, fitTo}
 use Rattle.rules.specs.RowsInOrder.{sorted, increasing, Each}
-use Rattle.rules.specs.Refusals.{Verdict, given, refused, _then_, _when_, lowest}
+use Rattle.rules.specs.Refusals.{given, _when_}
 use Rattle.rules.specs.Layout.{Layout, rank, isDense, isSparse, made, soundLayout, wellFormed, withinSizes, withinProduct}
 use Rattle.rules.specs.Soundness.{Sound, DepsLow}
 use Rattle.rules.specs.Dependencies.{indexOf, onIndex}
@@ -23,9 +23,9 @@ use Rattle.rules.proofs.RefusedWith.{refusing-step}
 use Rattle.rules.proofs.Gathering.{gather-each}
 use Rattle.rules.proofs.Sorting.{sorted-each}
 use Rattle.rules.proofs.Soundness.{sound-true}
-use Rattle.rules.proofs.Changed.{each-map}
+use Rattle.rules.proofs.Changed.{at-seam, each-map}
 use Rattle.rules.proofs.Made.{made-sound}
-use Rattle.rules.proofs.Unions.{never}
+use Rattle.rules.proofs.Given.{then-given, step-given}
 use Rattle.rules.proofs.ConcatenateMade.{joinedFull}
 
 -- ---- refusals
@@ -60,24 +60,25 @@ pub record WasJoined (r : ℕ) (blocks : List Block) (x : Layout) : Type 0 where
   pub whole : Layout
   pub was-made : made (joinedFull r blocks whole) ≡ given x
 
--- where two steps are given, the second one is
-then-given : {A : Type 0} (v : Verdict A) (next : A → Verdict Layout) {x : Layout} → (v then next) ≡ given x → (a : A) × (next a ≡ given x)
-then-given (given a) next e = (a, e)
-then-given (refused n) next e = absurd (never e)
-
 -- what blocks are joined to was so made
 join-given : (r : ℕ) (blocks : List Block) {x : Layout} → joinBlocks r blocks ≡ given x → WasJoined r blocks x
 unfolding joinBlocks
 join-given r blocks e =
-    let a = then-given (lowest (10 when any (λ l. ltb r (rank l)) (layoutsOf blocks) ∷ [])) _ e in
-    let b = then-given (if (all isDense (layoutsOf blocks) && runOnFirst r blocks) (joinDense r blocks) (joinOther r blocks)) _ (a .1) in
-    record { whole = b .0; was-made = b .1 }
+    let a = step-given (10 when any (λ l. ltb r (rank l)) (layoutsOf blocks) ∷ []) _ e in
+    let b = then-given (if (all isDense (layoutsOf blocks) && runOnFirst r blocks) (joinDense r blocks) (joinOther r blocks)) _ a in
+    record { whole = b .0; was-made = b .2 }
 
 -- what holds of the scalar, and of a layout that was so made, holds of an answer
 by-blocks : (P : Layout → Type 0) (blocks : List Block) (r : ℕ) {x : Layout} → P newScalar → (WasJoined r blocks x → P x) → concatenate blocks r ≡ given x → P x
 unfolding concatenate none
 by-blocks P [] r {x} p f e = let same : newScalar ≡ x = cc in subst P same p
 by-blocks P (b ∷ blocks) r p f e = f (join-given r (b ∷ blocks) e)
+
+-- with a block there is such a layout
+pub concatenate-joined : {blocks : List Block} (r : ℕ) {x : Layout} {b : Block} → List·Memᴰ b blocks → concatenate blocks r ≡ given x → WasJoined r blocks x
+unfolding concatenate none
+concatenate-joined {blocks = []} r i e = absurd (List·Memᴰ·not-nil i)
+concatenate-joined {blocks = b ∷ blocks} r i e = join-given r (b ∷ blocks) e
 
 -- an answer is sound
 pub concatenate-sound : (blocks : List Block) (r : ℕ) {x : Layout} → concatenate blocks r ≡ given x → Sound x
@@ -90,11 +91,6 @@ concatenate-sound blocks r = by-blocks Sound blocks r (sound-true refl) (λ j. l
 abbrev LastBelow : ℕ → List ℕ → Type 0
 LastBelow b d = getD d (length d - 1) 0 < b
 
--- where the first row of two ends, the second begins
-at-seam : (p q : List ℕ) → getD (p ++ q) (length p) 0 ≡ getD q 0 0
-at-seam [] q = refl
-at-seam (x ∷ p) q = at-seam p q
-
 -- the number of a dependency stays as it is, whatever becomes of its index
 last-kept : (b : ℕ) (f : List ℕ → List ℕ) (d : List ℕ) → 0 < length d → LastBelow b d → LastBelow b (onIndex f d)
 unfolding onIndex
@@ -102,7 +98,7 @@ last-kept b f d h l =
     let rest : length (drop (length d - 1) d) ≡ 1 = rw length-drop (omega arith) in
     let at : length (f (indexOf d) ++ drop (length d - 1) d) - 1 ≡ length (f (indexOf d)) = rw length-append (omega arith) in
     let last : length d - 1 + 0 ≡ length d - 1 = omega arith in
-    rw (at, at-seam (f (indexOf d)) (drop (length d - 1) d), getD-drop (length d - 1) d 0 0, last) l
+    rw (at, at-seam (f (indexOf d)) (drop (length d - 1) d) refl, getD-drop (length d - 1) d 0 0, last) l
 
 module _ (r : ℕ) (deps : Layout → List (List ℕ)) where
   -- the numbers of joined dependencies are those of the blocks'

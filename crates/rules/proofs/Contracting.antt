@@ -93,6 +93,11 @@ module _ (l : Layout) where
       go false true false = turned
       go false false u = if-full P (overShorter l 0 rows) sparse full
 
+  -- it has the shape without its last extent
+  pub contracted-shape : contracted l .shape ≡ shortened (l .shape)
+  unfolding toDense
+  contracted-shape = contracted-cases (λ x. x .shape ≡ shortened (l .shape)) refl refl refl refl refl
+
 -- ---- it is sound
 
 -- few dependencies, shortened and merged, are few

@@ -1,8 +1,8 @@
 -- Many indices looked up at once: each as if it were asked for alone. And a place that is found is small.
-use mathlib.Core.Path.{_≡_, refl, sym, _∙_}
-use mathlib.Core.Bool.{Bool, true, false}
-use mathlib.Core.List.{List, [], _∷_, map}
-use Prim.Native.Nat.{ℕ, zero, suc, _+_, _*_, _<_, _≤_}
+use mathlib.Core.Path.{_≡_, sym, _∙_}
+use mathlib.Core.Bool.{true}
+use mathlib.Core.List.{List, [], _∷_}
+use Prim.Native.Nat.{ℕ, suc, _+_, _*_, _<_, _≤_}
 use native.Mathlib.Nat.{suc-mul, mul-le-mul-right}
 use native.Mathlib.Omega.{arith}
 use borrow.Author.Tests.{eqb-true, eq-eqb, not-false}
@@ -13,7 +13,7 @@ use lib.Seq.{take-all}
 use Rattle.rules.specs.Limits.{productLimit, resultSize, componentLimit}
 use Rattle.rules.specs.Lists.{all, allBelow}
 use Rattle.rules.specs.Buffers.{part}
-use Rattle.rules.specs.Refusals.{Verdict, given, inForm, _then_, _when_, lowest, Reason}
+use Rattle.rules.specs.Refusals.{given, inForm}
 use Rattle.rules.specs.Layout.{Layout, rank, width}
 use Rattle.rules.specs.Soundness.{Sound}
 use Rattle.rules.specs.Record.{natural, naturals, rowsOf, layoutIn, sound, ordered}
@@ -28,10 +28,9 @@ use Rattle.rules.proofs.Soundness.{OneKind, is-dense, is-diagonal, is-s
 use Rattle.rules.proofs.Indices.{ravel-below}
 use Rattle.rules.proofs.Ranges.{map-at}
 use Rattle.rules.proofs.Buffers.{length-part}
-use Rattle.rules.proofs.Given.{step-given}
+use Rattle.rules.proofs.Given.{step-given, none-held}
 use Rattle.rules.proofs.RowsRead.{rows-length, rows-row, all-part, naturals-take, naturals-drop}
 use Rattle.rules.proofs.Finding.{read-length, first-below, place-at, if-found, found-inside, place-dense, place-diagonal, place-sparse}
-use Rattle.rules.proofs.Unions.{never}
 use Rattle.rules.proofs.Calls.{lookup-call, rank-third}
 
 -- ---- a place that is found
@@ -64,20 +63,6 @@ module _ {l : Layout} (s : Sound l) (index : List ℕ) (n : length index ≡ ran
       by (is-sparse k) f =
           let t = place-at (take (width l) read) (l .rows) (sym (place-sparse l index read k) ∙ f .1) in
           omega (arith, t .0, s .sizes .rows-few)
-
--- ---- reasons
-
--- the test of a reason
-abbrev testOf : Reason → Bool
-testOf (n when holds) = holds
-
--- where something is given, no reason held
-none-held : {A : Type 0} (reasons : List Reason) (v : Verdict A) {a : A} → (lowest reasons then λ _. v) ≡ given a → (k : ℕ) → getD (map testOf reasons) k false ≡ false
-unfolding lowest
-none-held [] v e k = refl
-none-held ((n when true) ∷ reasons) v e k = absurd (never e)
-none-held ((n when false) ∷ reasons) v e zero = refl
-none-held ((n when false) ∷ reasons) v e (suc k) = none-held reasons v e k
 
 -- ---- many indices
 

@@ -107,3 +107,12 @@ module _ (l : Layout) (k : l .kind ≡ 2) (once : length (sorted (l .rows)) ≡ 
       go : (t : Bool) → isSparse l && eqb (length (l .rows)) (product (l .shape)) ≡ t → holds (if t (toDense l) l) index ≡ holds l index
       go true e = full-holds (eqb-true (length (l .rows)) (product (l .shape)) (both-true (isSparse l) _ e .1)) index
       go false e = refl
+
+-- dense if full, a sparse layout is no diagonal
+pub full-diagonal : (l : Layout) → l .kind ≡ 2 → denseIfFull l .kind ≡ 1 → ⊥
+unfolding denseIfFull toDense
+full-diagonal l e = go (isSparse l && eqb (length (l .rows)) (product (l .shape)))
+  where
+    go : (t : Bool) → if t (toDense l) l .kind ≡ 1 → ⊥
+    go true k = omega arith
+    go false k = omega arith

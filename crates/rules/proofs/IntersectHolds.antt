@@ -1,43 +1,33 @@
 -- An intersection holds a position exactly if both layouts do: for every kind and D. Assumes nothing.
-use mathlib.Core.Path.{_≡_, refl, sym, ap, _∙_, subst}
-use mathlib.Core.Bool.{Bool, true, false, not, _&&_, _||_}
-use mathlib.Core.List.{List, [], _∷_}
+use mathlib.Core.Path.{_≡_, refl, sym, _∙_}
+use mathlib.Core.Bool.{Bool, true, false, _&&_, _||_}
+use mathlib.Core.List.{List}
 use Prim.Native.Nat.{ℕ}
 use native.Mathlib.Omega.{arith}
 use borrow.Author.Tests.{eqb-true, eqb-false}
 use lib.ListN.{take}
-use Rattle.rules.specs.Lists.{if, keep}
+use Rattle.rules.specs.Lists.{keep}
 use Rattle.rules.specs.RowsInOrder.{sorted, among}
-use Rattle.rules.specs.Refusals.{Verdict, given, refused, inForm, _then_, _when_, lowest}
-use Rattle.rules.specs.Layout.{Layout, width, isDense, made}
+use Rattle.rules.specs.Refusals.{given}
+use Rattle.rules.specs.Layout.{Layout, width, isDense}
 use Rattle.rules.specs.Soundness.{WellFormed, Sound}
 use Rattle.rules.specs.CountsAndForms.{denseIfFull}
 use Rattle.rules.specs.Removal.{listsRow}
 use Rattle.rules.specs.Holding.{isPosition, holds}
-use Rattle.rules.specs.Pairs.{withMerged, alikeDiagonals, lowered, lowerD, barsExpansion, fewOf}
-use Rattle.rules.specs.Intersect.{filteredBy, barsMerged, withDense, common, intersectOfRows, intersect}
-use Rattle.rules.proofs.Same.{both-true, neither, true-not-false, decided}
+use Rattle.rules.specs.Pairs.{withMerged, alikeDiagonals, lowered, lowerD, barsExpansion}
+use Rattle.rules.specs.Intersect.{filteredBy, common, intersect}
+use Rattle.rules.proofs.Same.{both-true, neither, decided}
 use Rattle.rules.proofs.Sets.{among-in, in-among}
 use Rattle.rules.proofs.Sorting.{sorted-has, sorted-only}
 use Rattle.rules.proofs.Keeping.{keep-only, keep-passes, keep-has}
 use Rattle.rules.proofs.Tests.{true-both}
 use Rattle.rules.proofs.Holding.{true-position, holds-position, holds-dense, holds-sparse}
-use Rattle.rules.proofs.Made.{made-sound}
-use Rattle.rules.proofs.Forming.{full-sound}
-use Rattle.rules.proofs.ToRows.{CombinedBy, shapes-disagree, one-dense, two-diagonals, neither-dense, intersect-by}
 use Rattle.rules.proofs.Lowering.{Lowered, lowered-is}
-use Rattle.rules.proofs.Unions.{never}
+use Rattle.rules.proofs.IntersectMade.{commonOf, MadeOf, made-right, made-left, made-diagonals, made-rows, intersect-made}
 use Rattle.rules.proofs.UnionHolds.{deps-hold, diagonals-hold}
 use Rattle.rules.proofs.Full.{dense-if-full-holds}
 
 -- ---- what is given
-
--- the common rows of two layouts that are not dense, before they turn dense
-abbrev pub commonOf : Layout → Layout → Layout
-commonOf a b =
-    let x : Layout = lowered a (lowerD a b) in
-    let y : Layout = lowered b (lowerD a b) in
-    filteredBy x y (common x y)
 
 -- what an intersection is: the other where one is dense, the diagonal of two with equal D, or the common rows, dense if full
 pub data Met (a b : Layout) : Layout → Type 0 where
@@ -53,66 +43,15 @@ pub record Intersected (a b l : Layout) : Type 0 where
   pub met : Met a b l
   pub is-sound : Sound l
 
--- a layout of which an intersection was made
-module _ (a b : Layout) (e : a .shape ≡ b .shape) {l : Layout} where
-  -- made as it is
-  made-met : {x : Layout} → Met a b x → made x ≡ given l → Intersected a b l
-  made-met m g = let s = made-sound g in subst (Intersected a b) (s .0) (record { shapes = e; met = m; is-sound = s .1 })
-
-  -- with a dense one
-  dense-met : (other : Layout) → Met a b (filteredBy a b other) → withDense a b other ≡ given l → Intersected a b l
-  unfolding withDense lowest
-  dense-met other m g = go (barsMerged a b other) g
-    where
-      go : (t : Bool) → (lowest (11 when t ∷ []) then λ _. made (filteredBy a b other)) ≡ given l → Intersected a b l
-      go true h = absurd (never h)
-      go false h = made-met m h
-
-  -- of rows
-  rows-met : isDense a || isDense b ≡ false → intersectOfRows a b ≡ given l → Intersected a b l
-  unfolding intersectOfRows lowest
-  rows-met f g = go (barsExpansion a || barsExpansion b) (barsMerged x y (common x y)) (listsRow a d || listsRow b d) (not (fewOf x && fewOf y)) refl refl g
-    where
-      d : ℕ
-      d = lowerD a b
-
-      x : Layout
-      x = lowered a d
-
-      y : Layout
-      y = lowered b d
-
-      full : barsExpansion a || barsExpansion b ≡ false → listsRow a d || listsRow b d ≡ false → (v : Verdict Layout) → made (commonOf a b) ≡ v →
-          inForm denseIfFull v ≡ given l → Intersected a b l
-      full i j (given z) k h =
-          let s = made-sound k in
-          let is : denseIfFull (commonOf a b) ≡ l = ap denseIfFull (s .0) ∙ (cc) in
-          subst (Intersected a b) is (record { shapes = e; met = of-rows f i j (s .1); is-sound = full-sound (s .1) })
-      full i j (refused n) k h = absurd (never h)
-
-      go : (p q t u : Bool) → barsExpansion a || barsExpansion b ≡ p → listsRow a d || listsRow b d ≡ t →
-          (lowest (11 when (p || q) ∷ 12 when t ∷ 13 when u ∷ []) then λ _. inForm denseIfFull (made (commonOf a b))) ≡ given l →
-          Intersected a b l
-      go true q t u i j h = absurd (never h)
-      go false true t u i j h = absurd (never h)
-      go false false true u i j h = absurd (never h)
-      go false false false true i j h = absurd (never h)
-      go false false false false i j h = full i j (made (commonOf a b)) refl h
-
 -- an answer of `intersect` is such
 pub intersect-gives : (a b : Layout) {l : Layout} → intersect a b ≡ given l → Intersected a b l
-intersect-gives a b {l} g = go (intersect-by a b) g
+intersect-gives a b g = let m = intersect-made a b g in record { shapes = m .shapes; met = met-of (m .way); is-sound = m .is-sound }
   where
-    other : a .shape ≡ b .shape → (s t : Bool) → isDense a ≡ s → isDense b ≡ t → s || t ≡ true → if s (withDense a b b) (withDense a b a) ≡ given l → Intersected a b l
-    other e true t i j f h = dense-met a b e b (of-right i) h
-    other e false true i j f h = dense-met a b e a (of-left j) h
-    other e false false i j f h = absurd (true-not-false f refl)
-
-    go : {v : Verdict Layout} → CombinedBy a b (if (isDense a) (withDense a b b) (withDense a b a)) (intersectOfRows a b) v → v ≡ given l → Intersected a b l
-    go (shapes-disagree e) h = absurd (never h)
-    go (one-dense e f) h = other e (isDense a) (isDense b) refl refl f h
-    go (two-diagonals e f) h = made-met a b e (of-diagonals f) h
-    go (neither-dense e f k) h = rows-met a b e f h
+    met-of : {x : Layout} → MadeOf a b x → Met a b x
+    met-of (made-right f bars) = of-right f
+    met-of (made-left f bars) = of-left f
+    met-of (made-diagonals f) = of-diagonals f
+    met-of (made-rows m s) = of-rows (m .plain) (m .expand) (m .bare) s
 
 -- an answer is sound
 pub intersect-sound : (a b : Layout) {l : Layout} → intersect a b ≡ given l → Sound l

@@ -13,21 +13,28 @@
 --     Gathering, Taking, Axes, Stretching, Yielding,
 --     StretchedAnswers, ToRank                                     which answer an operation gives of a sound layout, by plain cases
 --     Given                                                        that what they give is sound
---     StretchedHolds, Full, IntersectHolds, ContractedHolds,
---     PermutedHolds                                                what is held then
+--     StretchedHolds, Full, IntersectMade, IntersectHolds,
+--     ContractedHolds, PermutedHolds                               what is held then, and of what an intersection is made
 --     Agreeing                                                     the common shape of shapes, by plain cases
---     Giving, Unchanged, Folding, BroadcastEnds, BroadcastHolds    a broadcast: what is stretched, folded in order, its end, and what it holds
+--     Giving, Unchanged, Folding, BroadcastSteps, BroadcastEnds,
+--     BroadcastHolds                                               a broadcast: what is stretched, folded in order, its end, and what it holds
 --     StretchedTogether, StretchedModes                            the two modes of stretching: what each lists, what both share
 --     MovedBy, Blocks, ConcatenateMade, JoinHolds                  blocks: what is moved by a start, what they have in common, what is made of them, and what a join holds
 --     Calls, FoundAll                                              what calls answer of sound records, and of many indices at once
 --     Piled, PiledPairs, Summing, ExchangeMade, ExchangeKeeps,
 --     Piles                                                        the pile: any exchanges keep its counts
 --     Slots, PileRecords, RecordPiles                              the same of records in the slots of a slice
+--     PileFacts                                                    what they keep of such a slice, and what calls answer of its slots, as one record of facts
 --     PileByHand                                                   a pile exchanged by hand
 --     Determined                                                   two outcomes that a contract allows are equal; the numbers of refusals are 1 to 13
 --     WorkedByHand, Examples                                       the table, and examples of every operation
 --     Refusing, RefusedWith, BroadcastRefused,
 --     ConcatenateRefused                                           which numbers are given
+--     FreeEntries, FreeBehind, Offering, FilteredDeps,
+--     IntersectLists                                               entries that are free on some axes; what an intersection lists, exactly
+--     EntriesKept, EntriesBroadcast, NoEntryLost, UnlistedSame     no dependency is lost, by an operation and in an expression; what is not listed does not matter
+--     BroadcastLists, ProductFolds, ProductLists                   what a broadcast in mode 1 lists, exactly: sums, one layout, diagonals, products, and a call
+--     EntriesByHand                                                where the rules do lose a dependency, each loss with the way round it, and two that are kept
 pub mod Order
 pub mod Same
 pub mod Sets
@@ -80,6 +87,7 @@ pub mod ToRank
 pub mod Given
 pub mod StretchedHolds
 pub mod Full
+pub mod IntersectMade
 pub mod IntersectHolds
 pub mod Calls
 pub mod FoundAll
@@ -92,6 +100,7 @@ pub mod Piles
 pub mod Slots
 pub mod PileRecords
 pub mod RecordPiles
+pub mod PileFacts
 pub mod PileByHand
 pub mod ContractedHolds
 pub mod PermutedHolds
@@ -99,6 +108,7 @@ pub mod Agreeing
 pub mod Giving
 pub mod Unchanged
 pub mod Folding
+pub mod BroadcastSteps
 pub mod StretchedTogether
 pub mod StretchedModes
 pub mod BroadcastEnds
@@ -113,4 +123,17 @@ pub mod Refusing
 pub mod RefusedWith
 pub mod BroadcastRefused
 pub mod ConcatenateRefused
+pub mod EntriesKept
+pub mod FreeEntries
+pub mod FreeBehind
+pub mod Offering
+pub mod FilteredDeps
+pub mod IntersectLists
+pub mod EntriesBroadcast
+pub mod NoEntryLost
+pub mod UnlistedSame
+pub mod BroadcastLists
+pub mod ProductFolds
+pub mod ProductLists
+pub mod EntriesByHand
 mod Examples

@@ -1,6 +1,6 @@
 -- What `union` and `intersect` make of a layout that is not dense: its rows with the smaller D, which hold the same. Assumes nothing.
 use mathlib.Core.Path.{_≡_, refl, sym, ap, _∙_}
-use mathlib.Core.Bool.{true, false}
+use mathlib.Core.Bool.{Bool, true, false}
 use mathlib.Core.List.{List, [], _∷_, _++_, List·Memᴰ, List·Memᴰ·not-nil, Memᴰ·of-map}
 use Prim.Native.Nat.{ℕ, zero, suc, _-_, _≤_, _<_}
 use native.Mathlib.Nat.{sub-zero}
@@ -9,9 +9,9 @@ use borrow.Author.Tests.{lt-ltb, le-ltb, ltb-false, not-false}
 use lib.Dec.{ltb}
 use lib.ListN.{length, getD, take, drop, replicate, take-append-drop, length-append, length-drop, length-replicate}
 use lib.Seq.{take-at, take-all}
-use Rattle.rules.specs.Lists.{none, below, allBelow}
+use Rattle.rules.specs.Lists.{if, none, below, allBelow}
 use Rattle.rules.specs.RowsInOrder.{sorted, In, Each}
-use Rattle.rules.specs.Layout.{Layout, rank, width, few}
+use Rattle.rules.specs.Layout.{Layout, rank, width, isDiagonal, few}
 use Rattle.rules.specs.Soundness.{WellFormed}
 use Rattle.rules.specs.Removal.{positions, keptAxes, crossed, fullRows, removedRows, listsRow, removeDenseAxes}
 use Rattle.rules.specs.Pairs.{lowered, barsExpansion, expanded}
@@ -139,6 +139,16 @@ module _ {l : Layout} (w : WellFormed l) where
           absurd (List·Memᴰ·not-nil (rw e at (behind-row (keptAxes l d) (on .0) (on .1))))
 
 -- ---- the layout that is made
+
+-- what holds of a layout, of it expanded and of it with dense axes removed holds of it lowered
+pub lowered-such : (P : Layout → Type 0) (l : Layout) (d : ℕ) → P l → P (expanded l) → P (removeDenseAxes l d) → P (lowered l d)
+unfolding lowered
+lowered-such P l d p q r = go (isDiagonal l) (ltb d (l .dense))
+  where
+    go : (s t : Bool) → P (if s (expanded l) (if t (removeDenseAxes l d) l))
+    go true t = q
+    go false true = r
+    go false false = p
 
 -- x is sparse with D as asked and the shape of l, and holds what l does; its rows have R - D numbers below the extents, and none
 -- comes again

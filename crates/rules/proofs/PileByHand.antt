@@ -1,6 +1,6 @@
 -- A pile of three layouts exchanged by hand, and two of their records in a slice; each holds by computation. Assumes nothing.
 use mathlib.Core.Path.{_≡_, refl}
-use mathlib.Core.Bool.{true}
+use mathlib.Core.Bool.{true, false}
 use mathlib.Core.List.{List, [], _∷_, _++_, map}
 use Prim.Native.Nat.{ℕ}
 use lib.IntN.{ℤ, pos, negsuc}
@@ -11,15 +11,17 @@ use Rattle.rules.specs.RowsInOrder.{cmpRows, increasing, insert, sorted}
 use Rattle.rules.specs.Refusals.{given, refused, lowest}
 use Rattle.rules.specs.Layout.{Layout, withinProduct, alike, wellFormed, withinSizes, soundLayout, made, encode}
 use Rattle.rules.specs.Record.{entriesFrom, sectionAt, walk, natural, rowsOf, entriesOf, layoutBy, layoutIn, sound, ordered}
+use Rattle.rules.specs.Arguments.{upTo, goodComponents}
 use Rattle.rules.specs.Positions.{ravelIndex}
 use Rattle.rules.specs.Dependencies.{held, filterDeps, barsFilter}
-use Rattle.rules.specs.Lookup.{readIndex, placeFrom, placeOf, lookup}
-use Rattle.rules.specs.CountsAndForms.{nnz, toDense, denseIfFull, dense}
+use Rattle.rules.specs.Lookup.{readIndex, placeFrom, placeOf, lookup, findNnzIndexCall}
+use Rattle.rules.specs.CountsAndForms.{nnz, nnzCall, toDense, denseIfFull, dense}
 use Rattle.rules.specs.Removal.{removedRows, listsRow, removeDenseAxes}
 use Rattle.rules.specs.Pairs.{lowered}
 use Rattle.rules.specs.Union.{unionOfRows, union, unionCall}
 use Rattle.rules.specs.Intersect.{withDense, intersectOfRows, intersect, intersectCall}
 use Rattle.rules.specs.Pile.{belongs, exchange, exchanged, exchangesMade, howMany, nonzeros, slotCount, soundSlots, exchangeCall, Exchange, exchangesFrom, exchangeAllCall}
+use Rattle.rules.specs.PileKept.{isPile, canExchange, slotsFinding, nnzSum}
 
 -- ---- layouts
 
@@ -85,6 +87,12 @@ slice = slot (2 ∷ 0 ∷ 1 ∷ 3 ∷ 2 ∷ 0 ∷ 2 ∷ 0 ∷ 0 ∷ []) 1793 ++ 
 pub record SlotTable : Type 0 where
   pub two-slots : slotCount slice ≡ 2
   pub all-sound : soundSlots slice ≡ true
+  pub a-pile : isPile (3 ∷ []) slice ≡ true
+  pub of-no-other-shape : isPile (2 ∷ []) slice ≡ false
+  pub can : canExchange slice (pos 0) (pos 1) ≡ true
+  pub cannot : canExchange slice (pos 1) (pos 1) ≡ false
+  pub one-finds : slotsFinding (1 ∷ []) slice ≡ 1
+  pub three-in-all : nnzSum slice ≡ 3
   -- the union has three rows; the intersection has none, and what stood behind its record stays
   pub made : exchangeCall slice (pos 0) (pos 1) workSize ≡ given (slot (2 ∷ 0 ∷ 1 ∷ 3 ∷ 3 ∷ 0 ∷ 1 ∷ 2 ∷ 0 ∷ 0 ∷ []) 1792 ++ slot (2 ∷ 0 ∷ 1 ∷ 3 ∷ 0 ∷ 0 ∷ 0 ∷ 0 ∷ 9 ∷ []) 1793 ++ map pos (7 ∷ 8 ∷ []))
   pub short : exchangeCall slice (pos 0) (pos 1) 10811 ≡ refused 2
@@ -98,10 +106,16 @@ pub record SlotTable : Type 0 where
   pub odd : exchangeAllCall slice (map pos (0 ∷ 1 ∷ 1 ∷ [])) workSize ≡ refused 5
 
 pub slot-table : SlotTable
-unfolding all any keep gather none from product sum same allBelow part over put cmpRows increasing insert sorted lowest withinProduct alike wellFormed withinSizes soundLayout made encode entriesFrom sectionAt walk natural rowsOf entriesOf layoutBy layoutIn sound ordered held filterDeps barsFilter toDense denseIfFull dense removedRows listsRow removeDenseAxes lowered unionOfRows union unionCall withDense intersectOfRows intersect intersectCall exchangeCall exchangesFrom exchangeAllCall
+unfolding all any keep gather none from product sum same allBelow part over put cmpRows increasing insert sorted lowest withinProduct alike wellFormed withinSizes soundLayout made encode entriesFrom sectionAt walk natural rowsOf entriesOf layoutBy layoutIn sound ordered held filterDeps barsFilter toDense denseIfFull dense removedRows listsRow removeDenseAxes lowered unionOfRows union unionCall withDense intersectOfRows intersect intersectCall upTo goodComponents ravelIndex readIndex placeFrom placeOf lookup findNnzIndexCall nnz nnzCall belongs exchangeCall exchangesFrom exchangeAllCall
 slot-table = record {
   two-slots = refl;
   all-sound = refl;
+  a-pile = refl;
+  of-no-other-shape = refl;
+  can = refl;
+  cannot = refl;
+  one-finds = refl;
+  three-in-all = refl;
   made = refl;
   short = refl;
   outside = refl;

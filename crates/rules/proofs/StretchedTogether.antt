@@ -1,7 +1,7 @@
 -- What mode 1 of stretching lists, that it has what mode 0 lists inside the new extents, and where both list the same. Assumes nothing.
 use mathlib.Core.Path.{_≡_, refl, sym, ap, _∙_, subst}
 use mathlib.Core.Bool.{Bool, true, false}
-use mathlib.Core.List.{List, [], _∷_, _++_, List·Memᴰ, List·Memᴰ·head, List·Memᴰ·tail, List·Memᴰ·eq-of-singleton}
+use mathlib.Core.List.{List, [], _∷_, List·Memᴰ, List·Memᴰ·head, List·Memᴰ·tail, List·Memᴰ·eq-of-singleton}
 use Prim.Native.Nat.{ℕ, suc, _+_, _-_, _≤_, _<_}
 use native.Mathlib.Omega.{arith}
 use borrow.Author.Tests.{le-leb}
@@ -15,12 +15,14 @@ use Rattle.rules.specs.Refusals.{given}
 use Rattle.rules.specs.Layout.{Layout, rank, few}
 use Rattle.rules.specs.Soundness.{WellFormed}
 use Rattle.rules.specs.Dependencies.{indexOf, onIndex}
+use Rattle.rules.specs.ComputedFrom.{Source, State, Input, depsOn, ComesFrom}
 use Rattle.rules.specs.Stretching.{isStretched, stretchedAxes, takeAll, yields, fittedYields, stretchDeps, stretched, broadcastToShape, broadcastToRank}
 use Rattle.rules.proofs.Order.{ComparedNumbers, under, even, above, compareNumbers}
 use Rattle.rules.proofs.Same.{true-not-false}
 use Rattle.rules.proofs.Sets.{Subset, each-one}
 use Rattle.rules.proofs.Sorting.{sorted-has, sorted-same}
 use Rattle.rules.proofs.Few.{few-each, few-sorted, sorted-few}
+use Rattle.rules.proofs.Changed.{at-seam}
 use Rattle.rules.proofs.Replaced.{with-length, with-same, with-other, fit-length}
 use Rattle.rules.proofs.Gathering.{gather-only, gather-has, gather-each}
 use Rattle.rules.proofs.Taking.{Taken, take-only, take-has}
@@ -28,14 +30,6 @@ use Rattle.rules.proofs.Axes.{stretched-below, stretched-has}
 use Rattle.rules.proofs.Yielding.{yields-each}
 use Rattle.rules.proofs.Folding.{given-is}
 use Rattle.rules.proofs.Given.{stretch-sound, rank-made}
-
--- an entry comes from a dependency: it has its number, agrees with it, fitted to the new rank, on every axis not stretched, and lies
--- below the new extent on each stretched one
-pub record ComesFrom (old shape d x : List ℕ) : Type 0 where
-  pub size : length x ≡ length shape + 1
-  pub number : getD x (length shape) 0 ≡ getD d (length old) 0
-  pub agrees : (k : ℕ) → k < length shape → isStretched old shape k ≡ false → getD x k 0 ≡ getD (fitTo (length shape) 0 (indexOf d)) k 0
-  pub inside : (k : ℕ) → k < length shape → isStretched old shape k ≡ true → getD x k 0 < getD shape k 0
 
 -- entries are those that come from some dependencies, and no others
 pub record FromAll (old shape : List ℕ) (deps entries : List (List ℕ)) : Type 0 where
@@ -80,11 +74,7 @@ module _ (old shape : List ℕ) where
     fitted-number =
         let at : length old + 0 ≡ length old = omega arith in
         let last : length d - 1 ≡ length old = omega arith in
-        behind-front (fitTo (length shape) 0 (indexOf d)) (drop (length d - 1) d) (fit-length (length shape) 0 (indexOf d)) ∙ getD-drop (length d - 1) d 0 0 ∙ rw (last, at)
-      where
-        behind-front : (p q : List ℕ) {m : ℕ} → length p ≡ m → getD (p ++ q) m 0 ≡ getD q 0 0
-        behind-front [] q e = rw (sym e)
-        behind-front (x ∷ p) q e = rw (sym e) (behind-front p q refl)
+        at-seam (fitTo (length shape) 0 (indexOf d)) (drop (length d - 1) d) (fit-length (length shape) 0 (indexOf d)) ∙ getD-drop (length d - 1) d 0 0 ∙ rw (last, at)
 
     -- what it takes on the stretched axes comes from it
     taken-comes : {x : List ℕ} → Taken shape axes (fitted d) x → ComesFrom old shape d x
@@ -225,6 +215,11 @@ module _ {l : Layout} (w : WellFormed l) where
     pub inputs-listed : FromAll (l .shape) shape (l .inputs) (x .inputs)
     unfolding stretched
     inputs-listed = listed (w .inputs-fit .lengths) (ap (λ (y : Layout). y .inputs) (given-is Together l shape e)) (stretch-sound Together l shape e .sizes .inputs-few)
+
+    -- those on states or inputs
+    pub deps-listed : (on : Source) → FromAll (l .shape) shape (depsOn on l) (depsOn on x)
+    deps-listed State = states-listed
+    deps-listed Input = inputs-listed
 
   -- stretched to a rank, likewise
   module _ (r : ℕ) {x : Layout} (e : broadcastToRank Together l r ≡ given x) where

@@ -37,8 +37,8 @@ abbrev pub bit : Bool → ℕ
 bit true = 1
 bit false = 0
 
--- the layouts that pass a test are counted one by one
-pub count-sum : (test : Layout → Bool) (t : List Layout) → length (keep test t) ≡ sum (map (λ l. bit (test l)) t)
+-- what passes a test is counted one by one
+pub count-sum : {A : Type 0} (test : A → Bool) (t : List A) → length (keep test t) ≡ sum (map (λ l. bit (test l)) t)
 unfolding keep sum
 count-sum test [] = refl
 count-sum test (x ∷ t) = go (test x) (count-sum test t)

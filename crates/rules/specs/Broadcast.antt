@@ -81,8 +81,8 @@ endOfBroadcast l =
 unfoldable pub broadcast : Mode → List Layout → Rule → Verdict Layout
 broadcast mode layouts rule =
     broadcastShapes (map (λ l. l .shape) layouts) then λ shape.
-    stretchAll mode shape layouts then λ all.
-    foldBack rule (reverse all) then λ l.
+    stretchAll mode shape layouts then λ stretched.
+    foldBack rule (reverse stretched) then λ l.
     endOfBroadcast l
 
 -- ---- the calls

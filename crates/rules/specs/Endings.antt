@@ -1,8 +1,10 @@
--- How a call ends: its answer, and what the lent buffers then hold.
+-- How a call ends: its answer, and what the lent buffers then hold, or which part of a lent slice is handed back.
 use mathlib.Core.Path.{_≡_}
 use mathlib.Core.Bool.{Bool, true, false, _||_}
 use mathlib.Core.List.{List, []}
 use Prim.Native.Nat.{ℕ}
+use borrow.Rule.Slice.Shared.{bySize}
+use denote.Ref.{RefT}
 use lib.ListN.{length}
 use lib.Dec.{eqb}
 use lib.IntN.{ℤ}
@@ -92,3 +94,9 @@ pub record Ends (v : Verdict (List ℤ)) (result work : List ℤ) (r : Written) 
   pub answer : writtenSays r ≡ inForm length v
   pub result-is : result′ ≡ resultAfter v result
   pub work-is : work′ ≡ workAfter v work
+
+-- ---- a part of a lent slice that is handed back
+
+-- it begins k numbers of four bytes behind the slice's begin: it is that very part, and no other with the same numbers
+pub record BeginsAt (k : ℕ) (s r : RefT (List ℤ)) : Type 0 where
+  pub there : r .ptr ≡ (s .ptr .0, bySize 4 k (s .ptr .1))

@@ -26,3 +26,7 @@ pub mod Permute
 pub mod Broadcast
 pub mod Concatenate
 pub mod FilterDepsFrom
+pub mod PileKept
+pub mod ComputedFrom
+pub mod Expressions
+pub mod Evaluation

@@ -1,20 +1,24 @@
 -- The pile: layouts of one shape, of which two are exchanged for their union and their intersection, any number of times; and the
 -- same on a slice of records.
+use mathlib.Core.Path.{_≡_}
 use mathlib.Core.Bool.{Bool, true, false, not, _&&_, _||_}
 use mathlib.Core.List.{List, [], _∷_, map}
 use Prim.Native.Nat.{ℕ, suc, _+_, _*_, _/_, _%_}
 use lib.IntN.{ℤ, pos, negsuc}
 use lib.ListN.{length, getD, set}
 use lib.Dec.{eqb, ltb}
+use Rattle.rules.specs.declared.Number.{Number}
+use Rattle.rules.specs.declared.Step.{Step}
+use Rattle.rules.specs.declared.Step.the-variants.{Done, Refused}
 use Rattle.rules.specs.Limits.{resultSize, workSize}
 use Rattle.rules.specs.Lists.{all, none, keep, below, sum, same}
 use Rattle.rules.specs.Buffers.{part, put}
 use Rattle.rules.specs.RowsInOrder.{increasing}
-use Rattle.rules.specs.Refusals.{Verdict, given, refused, _then_, _when_, lowest}
+use Rattle.rules.specs.Refusals.{Verdict, given, refused, inForm, numberOf, _then_, _when_, lowest}
 use Rattle.rules.specs.Layout.{Layout, isDense, isSparse, soundLayout, encode}
 use Rattle.rules.specs.Record.{natural, layoutIn, nowhere, sound}
 use Rattle.rules.specs.Arguments.{shortWork}
-use Rattle.rules.specs.Endings.{Lookup, found, nothing}
+use Rattle.rules.specs.Endings.{Lookup, found, nothing, numberSays, workAfter}
 use Rattle.rules.specs.Lookup.{lookup}
 use Rattle.rules.specs.CountsAndForms.{nnz}
 use Rattle.rules.specs.Union.{unionCall}
@@ -162,3 +166,22 @@ unfoldable pub exchangesIn : List ℤ → List Exchange
 exchangesIn [] = []
 exchangesIn (first ∷ []) = []
 exchangesIn (first ∷ second ∷ pairs) = record { first = first; second = second } ∷ exchangesIn pairs
+
+-- ---- how an exchange ends
+
+-- whether an exchange was made, or its refusal
+abbrev pub exchangeSays : Step → Verdict Unit
+exchangeSays Done = given tt
+exchangeSays (Refused why) = refused (numberOf why)
+
+-- the end of an exchange: its answer, the pile, which stays where it is refused, and the working buffer
+pub record Exchanged (v : Verdict (List ℤ)) (pile work : List ℤ) (r : Step) (pile′ work′ : List ℤ) : Type 0 where
+  pub answer : exchangeSays r ≡ inForm (λ _. tt) v
+  pub pile-is : pile′ ≡ givenOr pile v
+  pub work-is : work′ ≡ workAfter v work
+
+-- the end of many: how many were made, the pile after them, and the working buffer
+pub record AllExchanged (v : Verdict Exchanges) (pile work : List ℤ) (r : Number) (pile′ work′ : List ℤ) : Type 0 where
+  pub answer : numberSays r ≡ inForm (λ e. e .made) v
+  pub pile-is : pile′ ≡ givenOr pile (inForm (λ e. e .pile) v)
+  pub work-is : work′ ≡ workAfter (inForm (λ e. e .pile) v) work

@@ -12,7 +12,7 @@ use Rattle.rules.specs.declared.Section.the-variants.{Whole, Cut}
 use Rattle.rules.specs.declared.Head.{Head}
 use Rattle.rules.specs.declared.Walk.{Walk}
 use Rattle.rules.specs.declared.Walk.the-variants.{To, Broken}
-use Rattle.rules.specs.Limits.{listLimit}
+use Rattle.rules.specs.Limits.{listLimit, entryLimit}
 use Rattle.rules.specs.Lists.{if, all}
 use Rattle.rules.specs.Buffers.{part}
 use Rattle.rules.specs.RowsInOrder.{increasing}
@@ -72,9 +72,9 @@ unfoldable pub rowsOf : ℕ → ℕ → List ℕ → List (List ℕ)
 rowsOf w zero s = []
 rowsOf w (suc n) s = take w s ∷ rowsOf w n (drop w s)
 
--- n entries of w numbers each; those of no numbers are all alike, and 129 of them are too many already
+-- n entries of w numbers each; those of no numbers are all alike, and one above the limit is too many already
 unfoldable pub entriesOf : ℕ → ℕ → List ℕ → List (List ℕ)
-entriesOf zero n s = replicate (min n 129) []
+entriesOf zero n s = replicate (min n (suc entryLimit)) []
 entriesOf (suc w) n s = rowsOf (suc w) n s
 
 -- the entries of a section

@@ -6,44 +6,32 @@ use Rattle.exchange_records.proofs.Printing.{slot-refused, slot-lines, 
 use Rattle.exchange_records.proofs.write_slot.Statement.{statement}
 use Rattle.exchange_records.proofs.write_slot.Tie as tie
 
-sound-requires : tie.Need-sound-requires
-sound-requires c κs = search needs
-
-write-refusal-requires : tie.Need-write-refusal-requires
-write-refusal-requires c κs = search needs
-
-same-length : tie.Need-same-length
-same-length c = search needs
-
 returns : tie.Need-returns
 unfolding numberOf
 returns c =
     let written = c .before .before in
     let test = written .before .before in
-    front-is (slot-refused _ (test .before .sound .ensures .0) (test .if1 .taken)) (written .write-refusal .ensures)
+    front-is (slot-refused _ (test .before .sound .ensures) (test .if1 .taken)) (written .write-refusal .ensures)
 
 write-layout-requires : tie.Need-write-layout-requires
 write-layout-requires c κs =
     let test = c .before in
-    (slot-sound _ (test .before .sound .ensures .0) (test .if1 .left), test .before .before .before .pre)
-
-same-length-2 : tie.Need-same-length-2
-same-length-2 c = search needs
+    (slot-sound _ (test .before .sound .ensures) (test .if1 .left), test .before .before .before .pre)
 
 returns-2 : tie.Need-returns-2
 returns-2 c =
     let written = c .before .before in
     let test = written .before .before in
-    front-is (slot-lines _ (test .before .sound .ensures .0) (test .if1 .left)) (written .write-layout .ensures)
+    front-is (slot-lines _ (test .before .sound .ensures) (test .if1 .left)) (written .write-layout .ensures)
 
 pub write-slot-spec : {M : Type 1} → statement M
 write-slot-spec =
     tie.close
     (tie.spec
-    sound-requires
-    write-refusal-requires
-    same-length
+    (λ c κs. search needs)  -- sound-requires
+    (λ c κs. search needs)  -- write-refusal-requires
+    (λ c. search needs)  -- same-length
     returns
     write-layout-requires
-    same-length-2
+    (λ c. search needs)  -- same-length-2
     returns-2)
