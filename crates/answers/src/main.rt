@@ -150,10 +150,28 @@ fn answer_held(
     }
 }
 
-// The answer to a request, by the buffers that its operation is lent, if the operation's arguments are there and nothing else is.
+// The answer to a request by its operation; unknown if there is none of that number, whatever stands behind it.
 fn answer(request: &[i32], result: &mut [i32], work: &mut [i32], out: &mut [u8]) -> usize {
+    if request.len() == 0 {
+        return replies::word(b"bad request", out, 0);
+    }
+    let form = requests::form(requests::number(request, 0));
+    if form[0] == b'?' {
+        return replies::word(b"unknown", out, 0);
+    }
+    answer_known(request, form, result, work, out)
+}
+
+// The answer to a request, by the buffers that its operation is lent, if the operation's arguments are there and nothing else is.
+fn answer_known(
+    request: &[i32],
+    form: [u8; 6],
+    result: &mut [i32],
+    work: &mut [i32],
+    out: &mut [u8],
+) -> usize {
     let operation = requests::number(request, 0);
-    let at = requests::places(request, requests::form(operation));
+    let at = requests::places(request, form);
     if at[6] != request.len() {
         return replies::word(b"bad request", out, 0);
     }

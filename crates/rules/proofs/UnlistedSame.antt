@@ -25,7 +25,7 @@ use Rattle.rules.specs.Concatenate.{Block, movedBy, concatenate}
 use Rattle.rules.specs.Broadcast.{broadcast}
 use Rattle.rules.specs.ComputedFrom.{Source, DependsOn, readAt, Kept, Computes}
 use Rattle.rules.specs.Expressions.{Expression, Expressions, Parts, leaf, combined, stretched-to, contracted, permuted, joined, no-more, and-then, no-part, part-then, value, values, blocksOf}
-use Rattle.rules.specs.Evaluation.{Arithmetic, shapeOf, computesAt, backBy, less, inBlock, at, atEach, atParts, NoDenseDiagonal, Suited, SuitedAll, SuitedParts, AgreeOff}
+use Rattle.rules.specs.Evaluation.{Arithmetic, shapeOf, computesAt, backBy, backFrom, inBlock, at, atEach, atParts, NoDenseDiagonal, Suited, SuitedAll, SuitedParts, AgreeOff}
 use Rattle.rules.proofs.Same.{both-true, same-true}
 use Rattle.rules.proofs.Order.{ComparedNumbers, under, even, above, compareNumbers}
 use Rattle.rules.proofs.Low.{below-at, at-below}
@@ -206,7 +206,7 @@ module _ {A : Type 0} (arithmetic : Arithmetic A) (f g : ℕ → List ℕ → A)
       shape = shapeOf (value e)
 
       p : List ℕ
-      p = take (length shape) (less start q)
+      p = take (length shape) (backFrom start q)
 
       shape-is : shape ≡ l .shape
       shape-is = ap shapeOf v

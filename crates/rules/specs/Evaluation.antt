@@ -43,10 +43,10 @@ abbrev pub backBy : ℕ → List ℕ → List ℕ → List ℕ
 backBy n entries q = fitTo n 0 (map (λ p. getD q p 0) entries)
 
 -- where a position reads a block: less its start, on its axes
-unfoldable pub less : List ℕ → List ℕ → List ℕ
-less [] q = q
-less (s ∷ start) [] = []
-less (s ∷ start) (c ∷ q) = (c - s) ∷ less start q
+unfoldable pub backFrom : List ℕ → List ℕ → List ℕ
+backFrom [] q = q
+backFrom (s ∷ start) [] = []
+backFrom (s ∷ start) (c ∷ q) = (c - s) ∷ backFrom start q
 
 -- whether the block has that position
 abbrev pub inBlock : ℕ → List ℕ → List ℕ → List ℕ → Bool
@@ -73,7 +73,7 @@ module _ {A : Type 0} (a : Arithmetic A) (leaves : ℕ → List ℕ → A) where
     pub atParts : Parts → ℕ → List ℕ → A
     atParts no-part r q = a .nil
     atParts (part-then start zero e ps) r q =
-        let p : List ℕ = take (length (shapeOf (value e))) (less start q) in
+        let p : List ℕ = take (length (shapeOf (value e))) (backFrom start q) in
         if (isPosition (shapeOf (value e)) p && inBlock r start p q) (at e p) (atParts ps r q)
 
 -- ---- what is asked of an expression: P of each leaf, that no product is a diagonal with dense axes, and that no stretching cuts axes, which
