@@ -4,8 +4,8 @@ The port is built as it is delivered, by `rt staticlib`, from the crate in tests
 scratch tree below target/speed, beside links to the crates of this repository and to what is proved of them. The
 program that calls both sides is oracle/src/speed.rs.
 """
+from asking import ORACLE, ROOT, SOURCES, need_kit, need_rust
 import collections, filecmp, os, platform, shutil, subprocess, sys
-from asking import ORACLE, ROOT, SOURCES, need_rust
 
 FOLDER = os.path.join(ROOT, 'target', 'speed')
 TREE = os.path.join(FOLDER, 'tree')
@@ -28,14 +28,13 @@ def need():
     """Ends the test, as a failure, where something is missing; valgrind is fetched where that can be done."""
     if platform.machine() != 'x86_64':
         sys.exit('not run: instructions are counted on x86-64, and this machine is ' + platform.machine())
-    if not shutil.which('rt'):
-        sys.exit("not run: no 'rt' on the path (it comes with the Rattle kit)")
+    need_kit()
     need_rust()
     if not shutil.which('valgrind') and shutil.which('apt-get') and os.geteuid() == 0:
         say('fetching valgrind')
         subprocess.run(['apt-get', 'install', '-y', 'valgrind'], stdout=sys.stderr)
     if not shutil.which('valgrind'):
-        sys.exit('not run: no valgrind at hand, which counts instructions')
+        sys.exit("not run: no 'valgrind' on the path, which counts instructions")
 
 
 def told(words, cwd, errors=None, **environment):

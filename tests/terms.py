@@ -3,6 +3,8 @@ import os, re
 from asking import ROOT
 
 SPECS = os.path.join(ROOT, 'crates', 'rules', 'specs')
+# the files of definitions that no call computes with, whatever words their names are: the values of expressions
+ASIDE = ('Evaluation.antt',)
 
 # operation: kinds of its arguments (S slice, z number, c size of a buffer, b operator byte), definition, form of its answer
 CALLS = {
@@ -30,8 +32,8 @@ WORDS = {'Refusals': ['Verdict', 'given', 'refused', 'inForm'], 'Endings': ['Loo
 
 
 def specs():
-    """The text of each file of the rules' definitions."""
-    for name in sorted(os.listdir(SPECS)):
+    """The text of each file of the rules' definitions that a call may compute with."""
+    for name in sorted(set(os.listdir(SPECS)) - set(ASIDE)):
         with open(os.path.join(SPECS, name)) as file:
             yield name[:-5], file.read()
 

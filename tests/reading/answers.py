@@ -345,9 +345,9 @@ def answer(line):
         values = tuple(map(int, line.split()))
     except ValueError:
         return "bad request"
-    if not values or values[0] not in OPERATIONS or not all(-2**31 <= v < 2**31 for v in values):
+    if not values or not all(-2**31 <= v < 2**31 for v in values):
         return "bad request"
-    if values[0] in CAME_WITH and not landed(CAME_WITH[values[0]]):
+    if values[0] not in OPERATIONS or values[0] in CAME_WITH and not landed(CAME_WITH[values[0]]):
         return "unknown"
     kinds, operation = OPERATIONS[values[0]]
     got = take(kinds, values[1:])
