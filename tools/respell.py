@@ -25,7 +25,7 @@ IN_THE_WAY = {'is_digit', 'joined_by', 'made_by', 'way_on', 'read_at', 'by_rows'
 # fields and constructors that would get the name of a definition
 CHOSEN = {'how-many': 'how_many_hold', 'is-dense': 'dense_case', 'is-diagonal': 'diagonal_case', 'is-sparse': 'sparse_case',
           'not-dense': 'is_not_dense', 'on-diagonal': 'lies_on_diagonal', 'rows-below': 'rows_lie_below',
-          'shape-in': 'shape_lies_in', 'work-size': 'work_has_size'}
+          'shape-in': 'shape_lies_in', 'stretched-to': 'stretched_by', 'work-size': 'work_has_size'}
 
 
 def snake(name):
@@ -107,13 +107,14 @@ def fields(files):
 
 def turned(text, new, keep, field):
     """A text with each name spelled anew, but for a library's, and for what is projected and no field of the tree's."""
+    modules = set(re.findall(r'^use \S+ as (\S+)$', text, re.M)) - {'tie', 'goal'}
     def one(match):
         name, start = match[0], match.start()
         if name not in new or name in keep:
             return name
         if start > 1 and text[start - 1] == '.' and name not in field:
             head = re.search(LETTER + r"+(?:\." + LETTER + r"+)*\.$", text[max(0, start - 200):start])
-            if head and head[0][0].islower():
+            if head and head[0][0].islower() and head[0][:-1] not in modules:
                 return name
         return new[name]
     return TOKEN.sub(one, text)

@@ -1,4 +1,6 @@
 // Answers request lines. A line of numbers on standard input asks for one call, and one line on standard output says how it ended.
+#![tactic(auto)]
+
 mod made; // made.rt: operations that are lent a result buffer
 mod plain; // plain.rt: operations that are lent no buffer
 mod worked; // worked.rt: operations that are lent a working buffer too
@@ -9,7 +11,7 @@ use libc::{STDIN_FILENO, STDOUT_FILENO};
 use text::Read;
 
 // What a read brings: so many bytes are held of a line that has not ended, or the input ends.
-#[derive(Drop)]
+#[derive(Clone, Copy)]
 enum Heard {
     Held(usize),
     End,

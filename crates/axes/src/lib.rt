@@ -1,5 +1,7 @@
 // Extents in a slice, indices over them, and rows held against them and told apart by their numbers. A shape is a slice, the place of its
 // first extent and its rank, wherever it stands: in a record, in an argument, in a part of the working buffer.
+#![tactic(auto)]
+
 ghost use Rattle.std.specs.Prelude.{◌≡◌, map, ◌+◌, ◌≤◌, pos, length};
 ghost use Rattle.rules.specs.Lists.{all, all_below, product};
 ghost use Rattle.rules.specs.Buffers.{put};

@@ -12,7 +12,7 @@ ghost use Rattle.blocks.specs.Asked.{asked, otherwise};
 use super::reading::{all_ones, dense_axes, extent, kind, rank};
 
 // What is asked of a layout.
-#[derive(Drop)]
+#[derive(Clone, Copy)]
 pub enum Ask {
     // Whether its rank is at most the asked one.
     Within(usize),

@@ -18,7 +18,7 @@ use super::reading::extent;
 use super::running::{Line, starts_run};
 
 // How blocks are joined.
-#[derive(Drop)]
+#[derive(Clone, Copy)]
 pub enum Way {
     Unjoinable,
     Dense,
@@ -27,7 +27,7 @@ pub enum Way {
 }
 
 // How blocks are joined, to how many dense axes and to which extents, zeros behind them; all zeros where they cannot be.
-#[derive(Drop)]
+#[derive(Clone, Copy)]
 pub struct Join {
     pub way: Way,
     pub dense: usize,

@@ -1,4 +1,6 @@
 // How blocks are joined: dense, along the diagonal, by rows or not at all, and to which extents.
+#![tactic(auto)]
+
 mod reading; // reading.rt: what the record of a block says
 mod asking; // asking.rt: what is asked of every block
 mod measuring; // measuring.rt: what is measured of all blocks

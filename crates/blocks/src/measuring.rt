@@ -8,7 +8,7 @@ ghost use Rattle.blocks.specs.Measured.{measure, added, folded, Measurable, meas
 use super::reading::extent;
 
 // What is measured of a block.
-#[derive(Drop)]
+#[derive(Clone, Copy)]
 pub enum Measure {
     // Its first extent; a scalar's is 1.
     First,
@@ -19,7 +19,7 @@ pub enum Measure {
 }
 
 // How measures are taken together.
-#[derive(Drop)]
+#[derive(Clone, Copy)]
 pub enum Fold {
     Sum,
     Largest,

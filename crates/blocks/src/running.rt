@@ -9,7 +9,7 @@ ghost use Rattle.blocks.specs.Lines.{number_on, place_on};
 use super::reading::extent;
 
 // The lines that starts run along: the first axis, and the diagonal.
-#[derive(Drop)]
+#[derive(Clone, Copy)]
 pub enum Line {
     First,
     Diagonal,

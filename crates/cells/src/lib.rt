@@ -1,5 +1,7 @@
 // Numbers in lent slices: read, tested, stored, copied and cleared. The only crate that knows that they are signed: all above
 // reads a slice through its view.
+#![tactic(auto)]
+
 ghost use Rattle.std.specs.Prelude.{◌⊎◌, ◌≡◌, ◌+◌, ◌-◌, ◌^◌, ◌<◌, ◌≤◌, eqb, ltb, pos, ◌-ℤ◌, length, get_or, set};
 ghost use Rattle.rules.specs.Buffers.{part, over, put, zeros};
 ghost use Rattle.cells.specs.View.{view, sign_of, size_of, cmp_numbers};
@@ -7,7 +9,7 @@ ghost use Rattle.cells.specs.View.{view, sign_of, size_of, cmp_numbers};
 use rules::Ordering;
 
 // A number as its reader asks for it: a natural number, or a negative one.
-#[derive(Drop)]
+#[derive(Clone, Copy)]
 pub enum Sign {
     Natural(usize),
     Negative,

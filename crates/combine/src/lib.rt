@@ -1,4 +1,6 @@
 // One layout made of two in a window of parts: left, right, target, and two that are spare room.
+#![tactic(auto)]
+
 mod window; // window.rt: what every rule for two layouts shares
 mod uniting; // uniting.rt: the union
 

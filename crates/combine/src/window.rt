@@ -47,7 +47,7 @@ pub const SPARE_ROWS: usize = SPARE + ROWS;
 pub const OTHER_SPARE_ROWS: usize = OTHER_SPARE + ROWS;
 
 // Which way two layouts of one shape are taken.
-#[derive(Drop)]
+#[derive(Clone, Copy)]
 pub enum Way {
     // One of them is dense.
     Dense,

@@ -11,7 +11,7 @@ ghost use Rattle.entries.specs.Listing.{listed, moved_list, row_width, axes_in, 
 use rules::{Entries, Head};
 
 // The lists of a block.
-#[derive(Drop)]
+#[derive(Clone, Copy)]
 pub enum Listed {
     // Every index of a dense block, the diagonal of a diagonal one, the rows of a sparse one.
     Rows,

@@ -11,7 +11,7 @@ use super::entries::Listed;
 use rules::{Entries, Head};
 
 // Where the entries of a list of a block stand in its record as they are listed.
-#[derive(Drop)]
+#[derive(Clone, Copy)]
 pub enum Standing {
     At(Entries),
     Nowhere,

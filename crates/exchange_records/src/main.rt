@@ -1,5 +1,7 @@
 // Reads a pile of records and pairs of places from standard input, exchanges the records of each pair, and prints what came of each
 // exchange and then the pile; or why the whole is refused.
+#![tactic(auto)]
+
 ghost use Rattle.std.specs.Prelude.{◌≡◌, ◌+◌, ◌*◌, ◌%◌, ◌≤◌, length};
 ghost use Rattle.rules.specs.Limits.{result_size, work_size, list_limit};
 ghost use Rattle.record_text.specs.Fronts.{Front};

@@ -1,4 +1,6 @@
 // Module 3, `filter_deps`: which indices a layout in a part holds, and the entries of a table that it holds.
+#![tactic(auto)]
+
 ghost use Rattle.std.specs.Prelude.{◌≡◌};
 ghost use Rattle.rules.specs.RowsInOrder.{among};
 ghost use Rattle.rules.specs.Dependencies.{on_diagonal, held, index_of};

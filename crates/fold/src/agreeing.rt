@@ -9,7 +9,7 @@ ghost use Rattle.fold.specs.Stretched.{common_of, ShapeIs};
 use rules::Tuple;
 
 // A shape as slices hold it: how many extents it has, and these, with zeros behind them.
-#[derive(Drop)]
+#[derive(Clone, Copy)]
 pub struct Shape {
     pub rank: usize,
     pub extents: [i32; 4],

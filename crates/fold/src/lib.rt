@@ -1,4 +1,6 @@
 // Sound records of a list stretched to their common shape and folded from the last, in a window of parts.
+#![tactic(auto)]
+
 mod agreeing; // agreeing.rt: the common shape of records
 mod stretching; // stretching.rt: records stretched to it, judged first and brought into a part later
 mod folding; // folding.rt: one fold after the other

@@ -1,4 +1,6 @@
 // The public functions that write a record of another form or of a shape, module 5.
+#![tactic(auto)]
+
 ghost use Rattle.std.specs.Prelude.{◌≡◌, length};
 ghost use Rattle.rules.specs.Layout.{encode};
 ghost use Rattle.rules.specs.Refusals.{in_form};

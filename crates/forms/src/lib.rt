@@ -1,4 +1,6 @@
 // Forms: whether two sound records are the same, and records that are made of a shape or of another record.
+#![tactic(auto)]
+
 mod equality; // equality.rt: whether two records are the same
 mod writing; // writing.rt: a record written from its pieces
 mod rows; // rows.rt: rows that become a sparse record

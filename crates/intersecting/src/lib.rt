@@ -1,4 +1,6 @@
 // The intersection of the left and the right layout of a window.
+#![tactic(auto)]
+
 mod filter; // filter.rt: the dependencies of both, lowered, merged, and filtered by the head and the rows in the target
 
 ghost use Rattle.std.specs.Prelude.{◌≡◌};

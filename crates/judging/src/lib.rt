@@ -1,5 +1,7 @@
 // What is judged of arguments that several calls take. A call judges 1 and 2 first, which leave both buffers as they are, then its other
 // reasons one by one, after which the working buffer is cleared.
+#![tactic(auto)]
+
 ghost use Rattle.std.specs.Prelude.{◌≡◌, ◌||◌};
 ghost use Rattle.rules.specs.Arguments.{over_rank};
 ghost use Rattle.judging.specs.LentSizes.{SizesAre};
@@ -9,35 +11,35 @@ use cells::Sign;
 use rules::{Head, Mode, Refusal, Walk};
 
 // No count is over its limit and both lent buffers are long enough; or why the call is refused.
-#[derive(Drop)]
+#[derive(Clone, Copy)]
 pub enum Sizes {
     Kept,
     Refused(Refusal),
 }
 
 // A shape that obeys the extent rules, beside a result that is long enough; or why the call is refused.
-#[derive(Drop)]
+#[derive(Clone, Copy)]
 pub enum Shape {
     Good,
     Refused(Refusal),
 }
 
 // The heads of two sound records, or why the call is refused.
-#[derive(Drop)]
+#[derive(Clone, Copy)]
 pub enum Pair {
     Sound(Head, Head),
     Refused(Refusal),
 }
 
 // The start and the end of a range, or that one of them is wrong.
-#[derive(Drop)]
+#[derive(Clone, Copy)]
 pub enum Range {
     Within(usize, usize),
     Wrong,
 }
 
 // A mode of stretching, or that a number names none.
-#[derive(Drop)]
+#[derive(Clone, Copy)]
 pub enum ModeAsked {
     Is(Mode),
     Wrong,

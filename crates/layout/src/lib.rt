@@ -1,4 +1,6 @@
 // The public face: every function of the library under one name. Each judges what its caller hands over and asks nothing of it.
+#![tactic(auto)]
+
 mod refusals; // refusals.rt: refusals by number
 
 pub use form_calls::{dense, diagonal, new_empty, new_scalar, sparse, to_data_layout, to_dense};

@@ -1,4 +1,6 @@
 // The public functions on lists, modules 12 and 13: the step reads the records where they lie.
+#![tactic(auto)]
+
 mod broadcasting; // broadcasting.rt: layouts folded by an operator
 mod joining; // joining.rt: blocks joined to one layout
 

@@ -14,7 +14,7 @@ use super::asks::{Ask, all_pass};
 use rules::{Number, Refusal, Tuple};
 
 // What is measured of a shape.
-#[derive(Drop)]
+#[derive(Clone, Copy)]
 enum Measure {
     Rank,
     Extent(usize),

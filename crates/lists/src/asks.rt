@@ -7,7 +7,7 @@ ghost use Rattle.lists.specs.Places.{standing, EachAt};
 ghost use Rattle.lists.specs.Asked.{asked, Askable};
 
 // What is asked of the thing at the front of a slice.
-#[derive(Drop)]
+#[derive(Clone, Copy)]
 pub enum Ask {
     // Whether a count of extents that stands there is not over 4.
     FewAxes,

@@ -1,4 +1,6 @@
 // Things end to end in a slice, shapes, records or blocks: where each of them begins, and what is asked of all of them.
+#![tactic(auto)]
+
 mod walking; // walking.rt: where things begin
 mod asks; // asks.rt: what each of them has to pass
 mod soundness; // soundness.rt: whether records have too many axes, and whether they are sound

@@ -8,7 +8,7 @@ ghost use Rattle.lists.specs.Places.{behind_thing, standing, Inside, PlacesOf};
 use rules::{Section, Walk};
 
 // What stands end to end; a block has a start of so many numbers, a flag and a record.
-#[derive(Drop)]
+#[derive(Clone, Copy)]
 pub enum Thing {
     Shape,
     Record,

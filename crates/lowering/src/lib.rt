@@ -1,4 +1,6 @@
 // The rows and the dependencies of a layout in a part of the working slice, with a smaller D, put in order into a table of the slice.
+#![tactic(auto)]
+
 ghost use Rattle.std.specs.Prelude.{◌≡◌, true, ◌+◌, ◌-◌};
 ghost use Rattle.rules.specs.Lists.{product as product_of};
 ghost use Rattle.rules.specs.RowsInOrder.{Increasing};

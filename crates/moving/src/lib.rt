@@ -1,5 +1,7 @@
 // A layout made in one part, section by section: its head, rows as they stand in a record, and rows and dependencies whose numbers are picked
 // from those of a record; and dependencies fitted to another rank.
+#![tactic(auto)]
+
 ghost use Rattle.std.specs.Prelude.{◌≡◌, map, ◌+◌, ◌≤◌, length, take};
 ghost use Rattle.rules.specs.Lists.{fit_to};
 ghost use Rattle.rules.specs.RowsInOrder.{sorted};

@@ -1,5 +1,7 @@
 // The public functions that make one layout of two. Modules 8 and 9: both records are loaded into the window, and a step combines them there;
 // module 14: the step reads both where they lie, and makes the new layout in the first part of the working buffer.
+#![tactic(auto)]
+
 mod filter; // filter.rt: module 14
 
 ghost use Rattle.std.specs.Prelude.{◌≡◌, ◌&&◌, length};

@@ -1,4 +1,6 @@
 // Layouts in parts of the working buffer: taken from a record, written as one, and the end of a call.
+#![tactic(auto)]
+
 ghost use Rattle.std.specs.Prelude.{◌≡◌, ◌+◌, ◌-◌, ◌≤◌, length};
 ghost use Rattle.rules.specs.declared.Step.TheVariants.{Done};
 ghost use Rattle.rules.specs.Buffers.{part, over, put, zeros};

@@ -1,5 +1,7 @@
 // A pile of records in one lent slice, a record in each slot of 1,802 numbers: two of them are exchanged for their union and their
 // intersection, which are both made in the working buffer before anything of the pile is written.
+#![tactic(auto)]
+
 ghost use Rattle.std.specs.Prelude.{◌≡◌, ◌+◌, ◌≤◌, length};
 ghost use Rattle.rules.specs.Limits.{result_size, work_size};
 ghost use Rattle.rules.specs.Buffers.{put};
@@ -17,7 +19,7 @@ use rules::{Number, Refusal, Step};
 const SIXTH: usize = parts::WINDOW;
 
 // Where two different slots of a pile begin; or they are not such places.
-#[derive(Drop)]
+#[derive(Clone, Copy)]
 enum Slots {
     Two(usize, usize),
     Wrong,

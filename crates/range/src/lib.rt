@@ -1,5 +1,7 @@
 // The dependencies of a range of one record, cut for another: which axis is cut, which entries lie in the range, and what is left of
 // each. The other layout goes into one part, and they replace its own.
+#![tactic(auto)]
+
 ghost use Rattle.std.specs.Prelude.{◌≡◌, ◌+◌, ◌≤◌, length};
 ghost use Rattle.rules.specs.Record.{layout_in};
 ghost use Rattle.rules.specs.FilterDepsFrom.{filter_deps_from};
@@ -12,21 +14,21 @@ ghost use Rattle.range.specs.Cutting.{WideIs, AxisIs, EntryAsked, RowAsked, CutA
 use rules::{Entries, Head, Refusal, Step};
 
 // The axes whose extent is over 1: how many there are, and the first of them, 0 where there is none.
-#[derive(Drop)]
+#[derive(Clone, Copy)]
 struct Wide {
     count: usize,
     first: usize,
 }
 
 // The axis along which a source is cut, or that it cannot be.
-#[derive(Drop)]
+#[derive(Clone, Copy)]
 enum Axis {
     Along(usize),
     Nowhere,
 }
 
 // How entries are cut: along an axis, from a start to below an end, and to a rank.
-#[derive(Drop)]
+#[derive(Clone, Copy)]
 struct Cut {
     axis: usize,
     start: usize,

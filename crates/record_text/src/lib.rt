@@ -1,4 +1,6 @@
 // Text for programs: a list of numbers read from it; records and refusals as lines, at the front of a lent slice of bytes.
+#![tactic(auto)]
+
 ghost use Rattle.std.specs.Prelude.{◌≡◌, true, ◌+◌, ◌-◌, ◌*◌, ◌≤◌, length};
 ghost use Rattle.rules.specs.Refusals.{number_of};
 ghost use Rattle.rules.specs.Record.{layout_in, sound};

@@ -12,8 +12,6 @@ use lib.IntN.{ℤ, pos, negsuc}
 use lib.ListN.{length, get_or, take}
 use lib.Seq.{length-take-le, get_or-take}
 use lib.Signed.{mag, lt_z, le_z, non_neg}
-use mir.Syntax.{w32}
-use mir.Val.{to_z, of_z}
 use Rattle.rules.specs.Lists.{all}
 use Rattle.rules.specs.Buffers.{part}
 use Rattle.rules.specs.Layout.{alike}
@@ -69,14 +67,14 @@ pub record NaturalUpTo (n k : ℕ) (s : List ℤ) : Type 0 where
   pub passed : Passed non_neg n k (take n s)
   pub low : (j : ℕ) → j < k → get_or (view s) j 0 < 2 ^ 31
 
--- the least of them and 0, by its bits: it is 0 where they are natural, and else not all of the n are
-pub record LeastOf (n k : ℕ) (s : List ℤ) (least : ℕ) : Type 0 where
+-- the least of them and 0: it is 0 where they are natural, and else not all of the n are
+pub record LeastOf (n k : ℕ) (s : List ℤ) (least : ℤ) : Type 0 where
   pub upto : k ≤ n
   pub room : n ≤ length s
-  pub so_far : ((to_z w32 least ≡ pos 0) × NaturalUpTo n k s) ⊎ ((lt_z (to_z w32 least) (pos 0) ≡ true) × (false ≡ all non_neg (take n s)))
+  pub so_far : ((least ≡ pos 0) × NaturalUpTo n k s) ⊎ ((lt_z least (pos 0) ≡ true) × (false ≡ all non_neg (take n s)))
 
 -- none has been read
-pub least_start : (n : ℕ) (s : List ℤ) → n ≤ length s → LeastOf n 0 s 0
+pub least_start : (n : ℕ) (s : List ℤ) → n ≤ length s → LeastOf n 0 s (pos 0)
 least_start n s h = record {
   upto = omega arith;
   room = h;
@@ -99,20 +97,20 @@ module _ {n k : ℕ} {s : List ℤ} (p : NaturalUpTo n k s) (h : k < n) (m : mag
   natural_fails : lt_z (held (get_or s k (pos 0))) (pos 0) ≡ true → false ≡ all non_neg (take n s)
   natural_fails e = one_fails p.passed (pos 0) h refl (rw next_is (tested_negative (get_or s k (pos 0)) (rw (back (get_or s k (pos 0)) m) at e)))
 
-module _ {n k : ℕ} {s : List ℤ} {least : ℕ} (p : LeastOf n k s least) where
-  module _ {next : ℕ} (h : k < n) (m : mag (get_or s k (pos 0)) < 2 ^ 31) where
+module _ {n k : ℕ} {s : List ℤ} {least : ℤ} (p : LeastOf n k s least) where
+  module _ {next : ℤ} (h : k < n) (m : mag (get_or s k (pos 0)) < 2 ^ 31) where
     -- the next number is less
-    pub least_falls : lt_z (held (get_or s k (pos 0))) (to_z w32 least) ≡ true → next ≡ of_z w32 (get_or s k (pos 0)) → LeastOf n (k + 1) s next
+    pub least_falls : lt_z (held (get_or s k (pos 0))) least ≡ true → next ≡ held (get_or s k (pos 0)) → LeastOf n (k + 1) s next
     least_falls e f = record {
       upto = omega arith;
       room = p.room;
       so_far = ⊎_elim (λ o. let g = rw o.0 at e in inr (rw f g, natural_fails o.1 h m g))
-          (λ o. inr (rw f (less_negative (held (get_or s k (pos 0))) (to_z w32 least) e o.0), o.1))
+          (λ o. inr (rw f (less_negative (held (get_or s k (pos 0))) least e o.0), o.1))
           p.so_far;
     }
 
     -- it is not
-    pub least_stays : lt_z (held (get_or s k (pos 0))) (to_z w32 least) ≡ false → next ≡ least → LeastOf n (k + 1) s next
+    pub least_stays : lt_z (held (get_or s k (pos 0))) least ≡ false → next ≡ least → LeastOf n (k + 1) s next
     least_stays e f = record {
       upto = omega arith;
       room = p.room;
@@ -121,17 +119,17 @@ module _ {n k : ℕ} {s : List ℤ} {least : ℕ} (p : LeastOf n k s least) wher
 
   module _ (h : n ≤ k) where
     -- all are natural if the least is
-    pub least_tells : le_z (pos 0) (to_z w32 least) ≡ all non_neg (take n s)
+    pub least_tells : le_z (pos 0) least ≡ all non_neg (take n s)
     least_tells =
-        ⊎_elim (λ o. least_natural (to_z w32 least) o.0 ∙ all_passed o.1.passed h)
-        (λ o. least_negative (to_z w32 least) o.0 ∙ o.1)
+        ⊎_elim (λ o. least_natural least o.0 ∙ all_passed o.1.passed h)
+        (λ o. least_negative least o.0 ∙ o.1)
         p.so_far
 
     -- and their views are low
-    pub all_low : le_z (pos 0) (to_z w32 least) ≡ true → Low (take n (view s))
+    pub all_low : le_z (pos 0) least ≡ true → Low (take n (view s))
     all_low e =
         ⊎_elim (λ o. low_front n (view s) (λ j l. o.1.low j (omega arith)))
-        (λ o. absurd (true_not_false e (least_negative (to_z w32 least) o.0)))
+        (λ o. absurd (true_not_false e (least_negative least o.0)))
         p.so_far
 
 -- ---- a part of the view

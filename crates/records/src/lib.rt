@@ -1,5 +1,7 @@
 // A record in a slice: its sections walked, its soundness and order judged, a row of it found. The only crate that knows where
 // a number of a record stands.
+#![tactic(auto)]
+
 mod reader; // reader.rt: a record with a place in it, read section by section
 
 ghost use Rattle.std.specs.Prelude.{◌≡◌, true, ◌+◌, ◌^◌, ◌<◌, ◌≤◌, length, take};
@@ -24,7 +26,7 @@ use cells::Sign;
 use rules::{Entries, Head, Section, Walk};
 
 // What judging rows finds: they do not fit, or they do and increase, or they do and stand in no order.
-#[derive(Drop)]
+#[derive(Clone, Copy)]
 enum Fit {
     Unfit,
     InOrder,
@@ -32,7 +34,7 @@ enum Fit {
 }
 
 // What judging the record at the front of a slice finds: it is sound, with its head and whether its rows increase, or it is not.
-#[derive(Drop)]
+#[derive(Clone, Copy)]
 pub enum Finding {
     Sound(Head, bool),
     Unsound,

@@ -8,7 +8,7 @@ ghost use Rattle.records.specs.Readers.{set_at};
 use rules::{Entries, Section};
 
 // A record, and a place in it.
-#[derive(Drop)]
+#[derive(Clone, Copy)]
 pub struct Reader<'a> {
     pub numbers: &'a [i32],
     pub at: usize,

@@ -1,4 +1,6 @@
 // The text of an answer. Each function answers the place behind what it wrote; what there is no room for is left out.
+#![tactic(auto)]
+
 use rules::{Comparison, Number, Ordering, Place, Refusal, Test, Tuple, Written};
 
 // Bytes go to a place.

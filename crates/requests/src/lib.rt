@@ -1,4 +1,6 @@
 // What a request line asks for: its arguments, and the buffers that it lends.
+#![tactic(auto)]
+
 mod arguments; // arguments.rt: where they stand among the line's numbers
 mod buffers; // buffers.rt: the pattern in the lent buffers
 

@@ -11,7 +11,7 @@ use cells::Sign;
 use rules::{Head, Refusal, Step};
 
 // Whether entries name axes, each once; and then the largest of them, and for each axis the place of its entry, 5 where it has none.
-#[derive(Drop)]
+#[derive(Clone, Copy)]
 struct Moves {
     named: bool,
     largest: usize,

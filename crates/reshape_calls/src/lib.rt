@@ -1,5 +1,7 @@
 // The public functions that make one layout of another by cutting or moving its axes, modules 10 and 11: the record is read where it
 // lies, and a step makes the new layout in the first part of the working buffer.
+#![tactic(auto)]
+
 ghost use Rattle.std.specs.Prelude.{length};
 ghost use Rattle.rules.specs.Refusals.{in_form};
 ghost use Rattle.rules.specs.Layout.{encode};

@@ -28,7 +28,7 @@ use Rattle.rules.specs.Broadcast.{combine, stretch_all, fold_onto, fold_back, en
 use Rattle.rules.specs.Concatenate.{Block, start_at, join_dense, join_other, joined_deps, join_blocks, concatenate, moved_by}
 use Rattle.rules.specs.FilterDepsFrom.{cut_deps, filter_deps_from}
 use Rattle.rules.specs.ComputedFrom.{State, DependsOn, StretchedFrom}
-use Rattle.rules.specs.Expressions.{Expression, leaf, combined, stretched_to_lem, contracted, joined, no_more, and_then, no_part, part_then, value, first_of, first_part, Through, at_leaf, through_combined, through_stretched, through_contracted, through_joined}
+use Rattle.rules.specs.Expressions.{Expression, leaf, combined, stretched_by, contracted, joined, no_more, and_then, no_part, part_then, value, first_of, first_part, Through, at_leaf, through_combined, through_stretched, through_contracted, through_joined}
 use Rattle.rules.proofs.Sets.{among_in, not_among}
 use Rattle.rules.proofs.NoEntryLost.{no_entry_lost}
 
@@ -313,7 +313,7 @@ plant_keeps = no_entry_lost State plant_through plant_gives 7 (Memᴰ.head refl)
 -- ---- the exchangers widened to [1,2], above a dense [1,2]
 
 abbrev pub stacked : Expression
-stacked = joined 2 (part_then (two 0 0) false (stretched_to_lem (two 1 2) (leaf 0 one_by_one)) (part_then (two 1 0) false (leaf 1 (dense (two 1 2))) no_part))
+stacked = joined 2 (part_then (two 0 0) false (stretched_by (two 1 2) (leaf 0 one_by_one)) (part_then (two 1 0) false (leaf 1 (dense (two 1 2))) no_part))
 
 pub stacked_gives : value stacked ≡ given widened_joined
 unfolding all any keep gather none from product sum largest same all_below with fit_to cmp_rows increasing insert sorted sorted_onto lowest within_product well_formed within_sizes made

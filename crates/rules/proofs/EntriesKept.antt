@@ -265,7 +265,7 @@ module _ (p : List ℕ) (j : ℕ) where
       let to : List ℕ → List ℕ = λ index. less_start (cut_axis source) start (take (rank target) index) in
       let cut : Source → List (List ℕ) = λ s. cut_deps target source start end (deps_on s source) in
       rw c.cut (made_given (λ y. DependsOn on y (to p) j)
-      (λ _. lists_as on cut (with_deps (cut State) (cut Input) target) refl refl (changed_in p j to (keep_has (λ d. in_range source start end (index_of d)) m (rw (entry_index p j) c.ranges-2))))
+      (λ _. lists_as on cut (with_deps (cut State) (cut Input) target) refl refl (changed_in p j to (keep_has (λ d. in_range source start end (index_of d)) m (rw (entry_index p j) c.ranges))))
       (filter_made target source start end e))
 
 -- a layout that is stretched in mode 1 and then joined as a block: the join lists, where that moves them, all entries that the stretched one has

@@ -36,7 +36,7 @@ too_many {t} i long e =
 gathered : {t : List (List ℕ)} → Increasing t → (long : List (List ℕ)) → Gathered (sorted (t ++ long)) (sorted_onto t long)
 unfolding sorted_onto
 gathered {t} i [] = record { limit = rw (merge_nil_right i); within = λ _. rw (merge_nil_right i) }
-gathered {t} i (r ∷ long) = go (few t) refl (gathered (insert_increasing r i) long)
+gathered {t} i (r ∷ long) = go (few t) refl (gathered {t = insert r t} (insert_increasing r i) long)
   where
     go : (b : Bool) → few t ≡ b → Gathered (sorted (insert r t ++ long)) (sorted_onto (insert r t) long) → Gathered (sorted (t ++ (r ∷ long))) (sorted_onto t (r ∷ long))
     go true e rest = rw (e, onto_cons i r long) rest
@@ -58,7 +58,7 @@ sorted_few_lem long e = (gathered increasing_nil long).within e
 onto_increasing : {t : List (List ℕ)} → Increasing t → (long : List (List ℕ)) → Increasing (sorted_onto t long)
 unfolding sorted_onto
 onto_increasing i [] = i
-onto_increasing {t} i (r ∷ long) = go (few t) (onto_increasing (insert_increasing r i) long)
+onto_increasing {t} i (r ∷ long) = go (few t) (onto_increasing {t = insert r t} (insert_increasing r i) long)
   where
     go : (b : Bool) → Increasing (sorted_onto (insert r t) long) → Increasing (if b (sorted_onto (insert r t) long) t)
     go true rest = rest
@@ -68,7 +68,7 @@ onto_increasing {t} i (r ∷ long) = go (few t) (onto_increasing (insert_increas
 onto_each : {P : List ℕ → Type 0} {t : List (List ℕ)} → Each P t → {long : List (List ℕ)} → Each P long → Each P (sorted_onto t long)
 unfolding sorted_onto
 onto_each f {long = []} g = f
-onto_each {P} {t} f {long = r ∷ long} g = go (few t) (onto_each (insert_each r (each_head g) f) (each_tail g))
+onto_each {P} {t} f {long = r ∷ long} g = go (few t) (onto_each {t = insert r t} (insert_each r (each_head g) f) {long = long} (each_tail g))
   where
     go : (b : Bool) → Each P (sorted_onto (insert r t) long) → Each P (if b (sorted_onto (insert r t) long) t)
     go true rest = rest

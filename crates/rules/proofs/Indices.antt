@@ -115,7 +115,7 @@ unfolding positions all_below
 positions_only [] m = let e = Memᴰ.eq_of_singleton m in (ap length e, rw e)
 positions_only {index} (e ∷ shape) m =
     let k = spread_only 0 e (positions shape) m in
-    let rest = positions_only shape k.row in
+    let rest = positions_only {index = k.others} shape k.row in
     rw k.is (ap suc rest.0, true_both (lt-ltb k.first e (omega arith)) rest.1)
 
 -- each index with as many components, below the extents, is there

@@ -16,7 +16,7 @@ use Rattle.rules.specs.Permute.{permute}
 use Rattle.rules.specs.Broadcast.{broadcast}
 use Rattle.rules.specs.Concatenate.{Block, concatenate}
 use Rattle.rules.specs.ComputedFrom.{Source, DependsOn}
-use Rattle.rules.specs.Expressions.{Expression, Expressions, Parts, leaf, combined, stretched_to_lem, contracted, permuted, joined, no_more, and_then, part_then, value, values, blocks_of, OneOf, first_of, later_of, PartOf, first_part, later_part, Through, at_leaf, through_combined, through_stretched, through_contracted, through_permuted, through_joined}
+use Rattle.rules.specs.Expressions.{Expression, Expressions, Parts, leaf, combined, stretched_by, contracted, permuted, joined, no_more, and_then, part_then, value, values, blocks_of, OneOf, first_of, later_of, PartOf, first_part, later_part, Through, at_leaf, through_combined, through_stretched, through_contracted, through_permuted, through_joined}
 use Rattle.rules.proofs.Made.{made_sound}
 use Rattle.rules.proofs.Given.{then_given, BothGiven, both_given, contract_sound, permute_sound, stretch_sound}
 use Rattle.rules.proofs.BroadcastHolds.{broadcast_sound}
@@ -31,7 +31,7 @@ pub value_sound : (e : Expression) {x : Layout} → value e ≡ given x → Soun
 unfolding value
 value_sound (leaf n l) g = let s = made_sound g in subst Sound s.0 s.1
 value_sound (combined rule es) g = let u = then_given (values es) (λ layouts. broadcast Together layouts rule) g in broadcast_sound Together u.0 rule u.2
-value_sound (stretched_to_lem shape e) g = let u = then_given (value e) (λ l. broadcast_to_shape Together l shape) g in stretch_sound Together u.0 shape u.2
+value_sound (stretched_by shape e) g = let u = then_given (value e) (λ l. broadcast_to_shape Together l shape) g in stretch_sound Together u.0 shape u.2
 value_sound (contracted e) g = let u = then_given (value e) contract_last_axis g in contract_sound u.0 u.2
 value_sound (permuted entries e) g = let u = then_given (value e) (λ l. permute l entries) g in permute_sound u.0 entries u.2 (value_sound e u.1)
 value_sound (joined r ps) g = let u = then_given (blocks_of ps) (λ blocks. concatenate blocks r) g in concatenate_sound u.0 r u.2

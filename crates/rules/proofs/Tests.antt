@@ -77,11 +77,15 @@ module _ {A : Type 0} where
   none_counted (x ∷ l) = sym (ne_eqb (suc (length l)) 0 (λ e. omega arith))
 
 module _ {A : Type 0} (test : A → Bool) where
+  -- the element that stands at a place passes, where all do
+  each_passes : (x : A) {l : List A} → Memᴰ x l → all test l ≡ true → test x ≡ true
+  unfolding all
+  each_passes x (Memᴰ.head {x = y} {xs = l} d) e = ap test d ∙ (both_true (test y) (all test l) e).0
+  each_passes x (Memᴰ.tail {x = y} {xs = l} m) e = each_passes x m (both_true (test y) (all test l) e).1
+
   -- where all elements pass, each one does
   pub all_each : {l : List A} → all test l ≡ true → (x : A) → Memᴰ x l → test x ≡ true
-  unfolding all
-  all_each e x (Memᴰ.head {x = y} {xs = l} d) = ap test d ∙ (both_true (test y) (all test l) e).0
-  all_each e x (Memᴰ.tail {x = y} {xs = l} m) = all_each (both_true (test y) (all test l) e).1 x m
+  all_each e x m = each_passes x m e
 
   -- where each element passes, all do
   pub each_all : (l : List A) → ((x : A) → Memᴰ x l → test x ≡ true) → all test l ≡ true

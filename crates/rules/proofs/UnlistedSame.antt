@@ -24,7 +24,7 @@ use Rattle.rules.specs.Permute as Move
 use Rattle.rules.specs.Concatenate.{Block, moved_by, concatenate}
 use Rattle.rules.specs.Broadcast.{broadcast}
 use Rattle.rules.specs.ComputedFrom.{Source, DependsOn, read_at, Kept, Computes}
-use Rattle.rules.specs.Expressions.{Expression, Expressions, Parts, leaf, combined, stretched_to_lem, contracted, permuted, joined, no_more, and_then, no_part, part_then, value, values, blocks_of}
+use Rattle.rules.specs.Expressions.{Expression, Expressions, Parts, leaf, combined, stretched_by, contracted, permuted, joined, no_more, and_then, no_part, part_then, value, values, blocks_of}
 use Rattle.rules.specs.Evaluation.{Arithmetic, shape_of, computes_at, back_by, back_from, in_block, at, at_each, at_parts, NoDenseDiagonal, Suited, SuitedAll, SuitedParts, AgreeOff}
 use Rattle.rules.proofs.Same.{both_true, same_true}
 use Rattle.rules.proofs.Order.{ComparedNumbers, under, even, above, compare_numbers}
@@ -155,7 +155,7 @@ module _ {A : Type 0} (arithmetic : Arithmetic A) (f g : ℕ → List ℕ → A)
 
   -- so has one that is stretched
   stretched_same : (shape : List ℕ) (e : Expression) {l x : Layout} → Sound l → value e ≡ given l → broadcast_to_shape Together l shape ≡ given x → length (shape_of (value e)) ≤ length shape → (q : List ℕ) →
-      is_position x.shape q ≡ true → (DependsOn on x q j → ⊥) → SameOff e l → at arithmetic f (stretched_to_lem shape e) q ≡ at arithmetic g (stretched_to_lem shape e) q
+      is_position x.shape q ≡ true → (DependsOn on x q j → ⊥) → SameOff e l → at arithmetic f (stretched_by shape e) q ≡ at arithmetic g (stretched_by shape e) q
   unfolding at
   stretched_same shape e {l} {x} s v c h q i u same-below =
       let inside : is_position shape q ≡ true = rw (stretch_shape Together l shape c) at i in
@@ -229,7 +229,7 @@ module _ {A : Type 0} (arithmetic : Arithmetic A) (f g : ℕ → List ℕ → A)
         let is : l ≡ x = (made_sound v).0 in
         s q (rw is i) (λ m. u (subst (λ (y : Layout). DependsOn on y q j) is m))
     same_off (combined rule es) s v q i u = combined_same rule es v s.0 q i u (λ layouts h reads. same_each es s.1 layouts h q reads)
-    same_off (stretched_to_lem shape e) s v q i u =
+    same_off (stretched_by shape e) s v q i u =
         let w = then_given (value e) (λ l. broadcast_to_shape Together l shape) v in
         stretched_same shape e (value_sound e w.1) w.1 w.2 s.0 q i u (same_off e s.1 w.1)
     same_off (contracted e) s v q i u = let w = then_given (value e) contract_last_axis v in contracted_same e w.1 w.2 q i u (same_off e s w.1)

@@ -9,7 +9,7 @@ use Rattle.rules.specs.Record.{naturals}
 use Rattle.rules.specs.Holding.{is_position, holds}
 use Rattle.rules.specs.Concatenate.{moved_by}
 use Rattle.rules.specs.ComputedFrom.{Source, DependsOn, read_at}
-use Rattle.rules.specs.Expressions.{Expression, Expressions, Parts, leaf, combined, stretched_to_lem, contracted, permuted, joined, no_more, and_then, no_part, part_then, value}
+use Rattle.rules.specs.Expressions.{Expression, Expressions, Parts, leaf, combined, stretched_by, contracted, permuted, joined, no_more, and_then, no_part, part_then, value}
 
 -- ---- the arithmetic
 
@@ -55,7 +55,7 @@ module _ {A : Type 0} (a : Arithmetic A) (leaves : ℕ → List ℕ → A) where
     pub at : Expression → List ℕ → A
     at (leaf n l) q = leaves n q
     at (combined rule es) q = if (computes_at rule (value (combined rule es)) q) (a.operate rule (at_each es q)) a.nil
-    at (stretched_to_lem shape e) q = at e (read_at (shape_of (value e)) q)
+    at (stretched_by shape e) q = at e (read_at (shape_of (value e)) q)
     at (contracted e) q = a.total (map (λ i. at e (q ++ (i ∷ []))) (below (get_or (shape_of (value e)) (length (shape_of (value e)) - 1) 0)))
     at (permuted entries e) q = at e (if (none entries) q (back_by (length (shape_of (value e))) (naturals entries) q))
     at (joined r ps) q = at_parts ps r q
@@ -87,7 +87,7 @@ module _ (P : ℕ → Layout → Type 0) where
     pub Suited : Expression → Type 0
     Suited (leaf n l) = P n l
     Suited (combined rule es) = NoDenseDiagonal rule (value (combined rule es)) × SuitedAll es
-    Suited (stretched_to_lem shape e) = (length (shape_of (value e)) ≤ length shape) × Suited e
+    Suited (stretched_by shape e) = (length (shape_of (value e)) ≤ length shape) × Suited e
     Suited (contracted e) = Suited e
     Suited (permuted entries e) = Suited e
     Suited (joined r ps) = SuitedParts ps

@@ -17,7 +17,7 @@ mutual
   pub data Expression : Type 0 where
     leaf : ℕ → Layout → Expression
     combined : Rule → Expressions → Expression
-    stretched_to_lem : List ℕ → Expression → Expression
+    stretched_by : List ℕ → Expression → Expression
     contracted : Expression → Expression
     permuted : List ℤ → Expression → Expression
     joined : ℕ → Parts → Expression
@@ -36,7 +36,7 @@ unfoldable mutual
   pub value : Expression → Verdict Layout
   value (leaf n l) = made l
   value (combined rule es) = values es then λ layouts. broadcast Together layouts rule
-  value (stretched_to_lem shape e) = value e then λ l. broadcast_to_shape Together l shape
+  value (stretched_by shape e) = value e then λ l. broadcast_to_shape Together l shape
   value (contracted e) = value e then λ l. contract_last_axis l
   value (permuted entries e) = value e then λ l. permute l entries
   value (joined r ps) = blocks_of ps then λ blocks. concatenate blocks r
@@ -69,7 +69,7 @@ pub data Through (l : Layout) (p : List ℕ) : Expression → List ℕ → Type 
   through_combined : {rule : Rule} {es : Expressions} {e : Expression} {q r : List ℕ} {a x : Layout} → Through l p e q → OneOf e es → value e ≡ given a →
       value (combined rule es) ≡ given x → StretchedFrom a.shape x.shape q r → Computes rule x r → Through l p (combined rule es) r
   through_stretched : {shape : List ℕ} {e : Expression} {q r : List ℕ} {a : Layout} → Through l p e q → value e ≡ given a → StretchedFrom a.shape shape q r →
-      Through l p (stretched_to_lem shape e) r
+      Through l p (stretched_by shape e) r
   through_contracted : {e : Expression} {q r : List ℕ} → Through l p e q → ContractedFrom q r → Through l p (contracted e) r
   through_permuted : {entries : List ℤ} {e : Expression} {q r : List ℕ} → Through l p e q → PermutedFrom entries q r → Through l p (permuted entries e) r
   through_joined : {asked : ℕ} {ps : Parts} {start : List ℕ} {zero : Bool} {e : Expression} {q r : List ℕ} → Through l p e q → PartOf start zero e ps →

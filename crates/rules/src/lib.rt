@@ -1,4 +1,5 @@
 // The limits and the types of the answers. What each answer means stands in specs/.
+#![tactic(auto)]
 
 // How large things may be; specs/Limits.antt says what each limit bounds.
 pub const RANK_LIMIT: usize = 4;
@@ -17,7 +18,7 @@ pub const RESULT_SIZE: usize = 1802;
 pub const WORK_SIZE: usize = 10812;
 
 // Why a call is refused; specs/Refusals.antt gives each its number.
-#[derive(Drop)]
+#[derive(Clone, Copy)]
 pub enum Refusal {
     OverCount,
     ShortBuffer,
@@ -35,7 +36,7 @@ pub enum Refusal {
 }
 
 // How two rows or two indices compare.
-#[derive(Drop)]
+#[derive(Clone, Copy)]
 pub enum Ordering {
     Less,
     Equal,
@@ -43,7 +44,7 @@ pub enum Ordering {
 }
 
 // What an operator byte asks of the layouts that are folded.
-#[derive(Drop)]
+#[derive(Clone, Copy)]
 pub enum Rule {
     Unite,
     Multiply,
@@ -51,28 +52,28 @@ pub enum Rule {
 }
 
 // What a stretched dependency yields: every value on each stretched axis alone, or every combination of values on all of them together.
-#[derive(Drop)]
+#[derive(Clone, Copy)]
 pub enum Mode {
     Alone,
     Together,
 }
 
 // How many numbers of the result buffer were written, or a refusal.
-#[derive(Drop)]
+#[derive(Clone, Copy)]
 pub enum Written {
     Numbers(usize),
     Refused(Refusal),
 }
 
 // A number, or a refusal.
-#[derive(Drop)]
+#[derive(Clone, Copy)]
 pub enum Number {
     Is(usize),
     Refused(Refusal),
 }
 
 // Yes or no, or a refusal.
-#[derive(Drop)]
+#[derive(Clone, Copy)]
 pub enum Test {
     Yes,
     No,
@@ -80,14 +81,14 @@ pub enum Test {
 }
 
 // How two indices compare, or a refusal.
-#[derive(Drop)]
+#[derive(Clone, Copy)]
 pub enum Comparison {
     By(Ordering),
     Refused(Refusal),
 }
 
 // Where a lookup finds an index, that it is not held, or a refusal.
-#[derive(Drop)]
+#[derive(Clone, Copy)]
 pub enum Place {
     Found(usize),
     Nothing,
@@ -95,21 +96,21 @@ pub enum Place {
 }
 
 // A step in the working buffer made its layout, or is refused.
-#[derive(Drop)]
+#[derive(Clone, Copy)]
 pub enum Step {
     Done,
     Refused(Refusal),
 }
 
 // A shape or an index by value: as many of the numbers as the count says, zeros behind them; all zeros where it is refused.
-#[derive(Drop)]
+#[derive(Clone, Copy)]
 pub struct Tuple {
     pub count: Number,
     pub numbers: [usize; 4],
 }
 
 // The entries of a section: how many there are, where the first one starts and where the last one ends.
-#[derive(Drop)]
+#[derive(Clone, Copy)]
 pub struct Entries {
     pub count: usize,
     pub first: usize,
@@ -117,14 +118,14 @@ pub struct Entries {
 }
 
 // A section of a record, or one that is cut off or has no count.
-#[derive(Drop)]
+#[derive(Clone, Copy)]
 pub enum Section {
     Whole(Entries),
     Cut,
 }
 
 // A walked record: its kind and dense-axis count as they stand there, its rank, the width of its rows, and its sections.
-#[derive(Drop)]
+#[derive(Clone, Copy)]
 pub struct Head {
     pub kind: i32,
     pub dense: i32,
@@ -136,7 +137,7 @@ pub struct Head {
 }
 
 // A record that was walked to its end, or one that cannot be.
-#[derive(Drop)]
+#[derive(Clone, Copy)]
 pub enum Walk {
     To(Head),
     Broken,

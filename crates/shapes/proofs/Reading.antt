@@ -81,37 +81,37 @@ nothing_up_to limit s i h = rw (get_or-eq_default s (pos 0) h, le-leb 0 limit (o
 module _ {g : Sign} (z : ℤ) (e : g ≡ sign_of z) where
   pub as_natural : {n : ℕ} → g ≡ Natural n → n ≡ natural z
   unfolding natural
-  as_natural f = rw (sections.sign-natural z (sym e ∙ f))
+  as_natural f = rw (sections.sign_natural z (sym e ∙ f))
 
   pub as_nothing : g ≡ Negative → 0 ≡ natural z
   as_nothing f = none_natural z (sym e ∙ f)
 
   pub as_over : {n : ℕ} → g ≡ Natural n → ltb list_limit n ≡ over_count z
   unfolding up_to
-  as_over {n} f = rw (sections.sign-natural z (sym e ∙ f)) (above_limit list_limit n (leb n list_limit) refl)
+  as_over {n} f = rw (sections.sign_natural z (sym e ∙ f)) (above_limit list_limit n (leb n list_limit) refl)
 
   pub as_over_negative : g ≡ Negative → true ≡ over_count z
   as_over_negative f = ap not (none_up_to z (sym e ∙ f) list_limit)
 
   pub as_count : {n : ℕ} → g ≡ Natural n → n ≤ list_limit → n ≡ list_count z
   unfolding list_count
-  as_count {n} f h = rw (sections.sign-natural z (sym e ∙ f), le-leb n list_limit h)
+  as_count {n} f h = rw (sections.sign_natural z (sym e ∙ f), le-leb n list_limit h)
 
   pub as_no_count : {n : ℕ} → g ≡ Natural n → list_limit < n → 0 ≡ list_count z
   unfolding list_count
-  as_no_count {n} f h = rw (sections.sign-natural z (sym e ∙ f), lt-leb n list_limit h)
+  as_no_count {n} f h = rw (sections.sign_natural z (sym e ∙ f), lt-leb n list_limit h)
 
   pub as_negative_count : g ≡ Negative → 0 ≡ list_count z
   as_negative_count f = none_listed z (sym e ∙ f)
 
   pub as_up_to : (limit : ℕ) {n : ℕ} → g ≡ Natural n → leb n limit ≡ up_to limit z
   unfolding up_to
-  as_up_to limit f = rw (sections.sign-natural z (sym e ∙ f))
+  as_up_to limit f = rw (sections.sign_natural z (sym e ∙ f))
 
   pub as_not_up_to : (limit : ℕ) → g ≡ Negative → false ≡ up_to limit z
   as_not_up_to limit f = none_up_to z (sym e ∙ f) limit
 
-pub ruleset reading = (sections.size-natural, handed_over, nothing_there, as_natural, as_nothing, as_over, as_over_negative, as_count, as_no_count, as_negative_count, nothing_up_to, as_up_to, as_not_up_to)
+pub ruleset reading = (sections.size_natural, handed_over, nothing_there, as_natural, as_nothing, as_over, as_over_negative, as_count, as_no_count, as_negative_count, nothing_up_to, as_up_to, as_not_up_to)
 
 -- the sign of a number that was handed over says whether it is natural
 pub sign_natural : {g : Sign} (z : ℤ) {n : ℕ} → g ≡ sign_of z → g ≡ Natural n → non_neg z ≡ true

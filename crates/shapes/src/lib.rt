@@ -1,4 +1,6 @@
 // Loops over a shape and over positions: what is judged of them, and the number of an index.
+#![tactic(auto)]
+
 mod numbers; // numbers.rt: numbers among the arguments
 mod extents; // extents.rt: one shape
 mod positions; // positions.rt: indices and their numbers

@@ -1,4 +1,6 @@
 // A record stretched to another shape, into a part of the working buffer: which axes stretch, and what a row and a dependency take there.
+#![tactic(auto)]
+
 mod spread; // spread.rt: which axes stretch
 mod every; // every.rt: every combination of values on some axes
 mod rows; // rows.rt: the rows

@@ -1,5 +1,7 @@
 // The public functions that stretch a layout to a shape or a rank, module 6: the step reads the record where it lies. The functions of the
 // Rust's names stretch in mode 0, in which each stretched axis takes its values alone; beside each stands one with a mode.
+#![tactic(auto)]
+
 ghost use Rattle.std.specs.Prelude.{length};
 ghost use Rattle.rules.specs.Refusals.{in_form};
 ghost use Rattle.rules.specs.Layout.{encode};

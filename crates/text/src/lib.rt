@@ -1,4 +1,6 @@
 // The text form of numbers: the numbers of a text, and numbers as lines of text.
+#![tactic(auto)]
+
 ghost use Rattle.std.specs.Prelude.{◌≡◌, ◌+◌, ◌*◌, ◌^◌, ◌≤◌, pos, neg_ℤ, length};
 ghost use Rattle.text.specs.Read.{is_gap};
 ghost use Rattle.text.specs.Written.{digits, number_text, line_text};
@@ -7,14 +9,14 @@ ghost use Rattle.text.specs.Spelled.{places_in, last_digits, item_text};
 ghost use Rattle.text.specs.Placed.{Placed, ReadInto, put_bytes, Wrote};
 
 // What a text is: so many numbers, or no text of numbers.
-#[derive(Drop)]
+#[derive(Clone, Copy)]
 pub enum Read {
     Numbers(usize),
     Other,
 }
 
 // A word as far as it is read: nothing yet, a minus alone, the value of digits, that of digits after a minus, or no number.
-#[derive(Drop)]
+#[derive(Clone, Copy)]
 enum Word {
     Nothing,
     Minus,

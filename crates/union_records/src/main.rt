@@ -1,4 +1,6 @@
 // Reads a list of two records from standard input and prints the five lines of their union, or why it is refused.
+#![tactic(auto)]
+
 ghost use Rattle.std.specs.Prelude.{◌≡◌, ◌≤◌, length};
 ghost use Rattle.rules.specs.Limits.{result_size, work_size};
 ghost use Rattle.record_text.specs.Lines.{verdict_text};

@@ -12,23 +12,23 @@ use Rattle.cells.proofs.low.Statement.{statement}
 use Rattle.cells.proofs.low.Tie as tie
 
 -- the number that was read
-abbrev element : tie.After-result → ℤ
+abbrev element : tie.After-result-1 → ℤ
 element c = get_or c.before.args.s.now c.before.args.at (pos 0)
 
-natural : (c : tie.After-result) → lt_z (held (element c)) (pos 0) ≡ false
-natural c = low_held (element c) c.result.given (rw view_get_or at c.before.requires.1)
+natural : (c : tie.After-result-1) → lt_z (held (element c)) (pos 0) ≡ false
+natural c = low_held (element c) c.result-1.given (rw view_get_or at c.before.requires.1)
 
-mul-result : tie.Need-overflow-mul-result
+mul-result : tie.Need-offset_bounds-s-at
 mul-result c = search rules
 
-shared-slice-copy-out-result : tie.Need-shared-slice-copy-out-result
+shared-slice-copy-out-result : tie.Need-bounds-s-at
 shared-slice-copy-out-result c = search rules
 
-cast-result : tie.Need-overflow-cast-result
-cast-result c = natural_casts (element c) c.result.given (natural c)
+cast-result : tie.Need-overflow_cast-result
+cast-result c = natural_casts (element c) c.result-1.given (natural c)
 
 returns : tie.Need-returns
-returns c = omega (arith, natural_is (element c) c.result.given (natural c), natural_code (element c) c.result.given (natural c), view_get_or c.before.args.s.now c.before.args.at)
+returns c = omega (arith, natural_is (element c) c.result-1.given (natural c), natural_code (element c) c.result-1.given (natural c), view_get_or c.before.args.s.now c.before.args.at)
 
-pub low-spec : {M : Type 1} → statement M
-low-spec = tie.close (tie.spec mul-result shared-slice-copy-out-result cast-result returns)
+pub low_spec : {M : Type 1} → statement M
+low_spec = tie.close (tie.spec mul-result shared-slice-copy-out-result cast-result returns)

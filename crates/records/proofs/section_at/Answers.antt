@@ -1,0 +1,19 @@
+-- `section_at`: each return says which case of the section it is.
+use borrow.Author.Rules.{rules}
+use Rattle.records.proofs.Sections.{laws}
+use Rattle.records.proofs.section_at.Goals as goal
+
+pub returns-then-s-at : goal.returns-then-s-at
+returns-then-s-at c = search (rules, laws)
+
+pub returns-in_default : goal.returns-in_default
+returns-in_default c = search (rules, laws)
+
+pub overflow_mul-size : goal.overflow_mul-size
+overflow_mul-size c = search (rules, laws)
+
+pub returns-then-s-first : goal.returns-then-s-first
+returns-then-s-first c = search (rules, laws)
+
+pub returns : goal.returns
+returns c = search (rules, laws)

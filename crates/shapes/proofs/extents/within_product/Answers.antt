@@ -1,0 +1,19 @@
+-- `within_product`: as numbers of a slice.
+use borrow.Author.Rules.{rules}
+use Rattle.shapes.proofs.Fitting.{four_within}
+use Rattle.shapes.proofs.extents.within_product.Goals as goal
+
+pub whole-requires : goal.whole-requires
+whole-requires c = c.requires 0
+
+pub whole-requires-2 : goal.whole-requires-2
+whole-requires-2 c = c.requires 1
+
+pub whole-requires-3 : goal.whole-requires-3
+whole-requires-3 c = c.requires 2
+
+pub whole-requires-4 : goal.whole-requires-4
+whole-requires-4 c = c.requires 3
+
+pub returns : goal.returns
+returns c = search (rules, four_within)

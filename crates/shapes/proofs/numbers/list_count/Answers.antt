@@ -1,0 +1,13 @@
+-- `list_count`: by the sign of the count.
+use borrow.Author.Rules.{rules}
+use Rattle.shapes.proofs.Reading.{reading}
+use Rattle.shapes.proofs.numbers.list_count.Goals as goal
+
+pub returns-then-n-le16 : goal.returns-then-n-le16
+returns-then-n-le16 c = search (rules, reading)
+
+pub returns-else-n-le16 : goal.returns-else-n-le16
+returns-else-n-le16 c = search (rules, reading)
+
+pub returns-in-Negative : goal.returns-in-Negative
+returns-in-Negative c = search (rules, reading)
