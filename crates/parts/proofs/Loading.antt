@@ -10,7 +10,7 @@ use lib.ListN.{length, get_or}
 use Rattle.rules.specs.declared.Head.{Head}
 use Rattle.rules.specs.declared.Entries.{Entries}
 use Rattle.rules.specs.Buffers.{part, put}
-use Rattle.rules.specs.Record.{sound, layout_in}
+use Rattle.rules.specs.Record.{layout_in}
 use Rattle.rules.proofs.Buffers.{length_part, part_put_all}
 use Rattle.cells.specs.View.{code, view}
 use Rattle.cells.proofs.View.{view_get_or, view_part}

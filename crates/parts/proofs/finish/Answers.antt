@@ -1,0 +1,36 @@
+-- `finish`: by what the step says; the part that it made is lent to `store`.
+use native.Mathlib.Omega.{arith}
+use Rattle.parts.specs.Parts.{Holds}
+use Rattle.parts.proofs.Lent.{lent_part_holds, lent_part_layout}
+use Rattle.parts.proofs.Ending.{finished_done, finished_refused}
+use Rattle.parts.proofs.finish.Goals as goal
+
+pub overflow_add-end : goal.overflow_add-end
+overflow_add-end c =
+    let holds : Holds c.args.at c.args.work.now = c.requires.holds c.in-Done.is in
+    omega (arith, holds.inside)
+
+pub offset_bounds-work-at : goal.offset_bounds-work-at
+offset_bounds-work-at c =
+    let holds : Holds c.args.at c.args.work.now = c.requires.holds c.in-Done.is in
+    omega (arith, holds.inside)
+
+pub slice_bounds-store-end : goal.slice_bounds-store-end
+slice_bounds-store-end c =
+    let holds : Holds c.args.at c.args.work.now = c.requires.holds c.in-Done.is in
+    holds.inside
+
+pub store-n-requires : goal.store-n-requires
+store-n-requires c =
+    let holds : Holds c.args.at c.args.work.now = c.requires.holds c.in-Done.is in record {
+      holds = lent_part_holds holds;
+      part_size_in_bounds = omega arith;
+    }
+
+pub returns-in-Done : goal.returns-in-Done
+returns-in-Done c =
+    let holds : Holds c.args.at c.args.work.now = c.requires.holds c.in-Done.is in
+    finished_done c.clear.ensures c.in-Done.is (lent_part_layout holds) c.store-n.ensures
+
+pub returns-in-Refused : goal.returns-in-Refused
+returns-in-Refused c = finished_refused c.refuse.ensures.1 c.in-Refused.is c.refuse.ensures.0
