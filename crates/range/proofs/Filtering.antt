@@ -13,7 +13,7 @@ use Rattle.rules.specs.declared.Refusal.TheVariants.{Unjoinable, MadeUnsound}
 use Rattle.rules.specs.declared.Step.TheVariants.{Done, Refused}
 use Rattle.rules.specs.RowsInOrder.{increasing}
 use Rattle.rules.specs.Refusals.{number_of}
-use Rattle.rules.specs.Layout.{Layout, rank, width, with_deps}
+use Rattle.rules.specs.Layout.{Layout, width, with_deps}
 use Rattle.rules.specs.Record.{layout_in}
 use Rattle.rules.specs.FilterDepsFrom.{cannot_cut, cut_deps, filter_deps_from}
 use Rattle.rules.proofs.Ranging.{cut_states, cut_inputs, filter_bars, filter_breaks, cut_ranks, filtered_sound, filter_given, filtered_low}

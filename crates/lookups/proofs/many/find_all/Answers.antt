@@ -1,6 +1,6 @@
 -- `find_all`: index by index.
 use Prim.Native.Nat.{◌-◌}
-use Rattle.lookups.proofs.FindingAll.{looks, index_ends}
+use Rattle.lookups.proofs.FindingAll.{looks, index_ends, number_turn}
 use borrow.Author.Rules.{rules}
 use Rattle.lookups.proofs.many.find_all.Goals as goal
 
@@ -50,7 +50,8 @@ pub loop-i-smaller : goal.loop-i-smaller
 loop-i-smaller c = search (rules, looks)
 
 pub loop-i-preserved : goal.loop-i-preserved
-loop-i-preserved c = search (rules, looks)
+loop-i-preserved c =
+    number_turn c.requires.sound_record c.requires.indices c.loop-i-test.true c.find.result c.find.ensures c.loop-i.invariant c.number_of.ensures
 
 pub shape_of-res : goal.shape_of-res
 shape_of-res c = search (rules, looks)
