@@ -56,10 +56,10 @@ use Rattle.join.proofs.Handing.{handed, all_asked}
 
 -- ---- what the way says of each block
 
-any_none : {A : Type 0} (test : A → Bool) {l : List A} {x : A} → any test l ≡ false → Memᴰ x l → test x ≡ false
+any_none : {A : Type 0} (test : A → Bool) {x : A} {l : List A} → Memᴰ x l → any test l ≡ false → test x ≡ false
 unfolding any
-any_none test e (Memᴰ.head {x = y} {xs = l} d) = ap test d ∙ (neither (test y) (any test l) e).0
-any_none test e (Memᴰ.tail {x = y} {xs = l} m) = any_none test (neither (test y) (any test l) e).1 m
+any_none test (Memᴰ.head {x = y} {xs = l} d) e = ap test d ∙ (neither (test y) (any test l) e).0
+any_none test (Memᴰ.tail {x = y} {xs = l} m) e = any_none test m (neither (test y) (any test l) e).1
 
 -- blocks that can be joined are not above the asked rank
 not_above : (r : ℕ) (blocks : List Block) → (way_of r blocks ≡ Unjoinable → ⊥) → (b : Block) → Memᴰ b blocks → rank b.layout ≤ r
@@ -68,7 +68,7 @@ not_above r blocks n b m = by (any (λ l. ltb r (rank l)) (layouts_of blocks)) r
   where
     by : (t : Bool) → any (λ l. ltb r (rank l)) (layouts_of blocks) ≡ t → rank b.layout ≤ r
     by true e = absurd (n (rw e))
-    by false e = ltb-false r (rank b.layout) (any_none (λ l. ltb r (rank l)) e (Memᴰ.map (λ (c : Block). c.layout) m))
+    by false e = ltb-false r (rank b.layout) (any_none (λ l. ltb r (rank l)) (Memᴰ.map (λ (c : Block). c.layout) m) e)
 
 -- blocks that are joined by rows have rows of R - D numbers
 module _ (r : ℕ) (blocks : List Block) (p : FormedBlocks r blocks) (w : way_of r blocks ≡ Rows) where
