@@ -1,5 +1,5 @@
 -- `exchange_pairs`: each turn is one pair and its line.
-use Prim.Native.Nat.{◌+◌, ◌-◌}
+use Prim.Native.Nat.{◌+◌}
 use native.Mathlib.Omega.{arith}
 use lib.ListN.{length-take, length-drop}
 use Rattle.exchange_records.proofs.Growing.{back_at}
