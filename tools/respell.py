@@ -166,7 +166,7 @@ def main():
             changed += 1
     for path in glob.glob('*.md') + glob.glob('docs/**/*.md', recursive=True) + glob.glob('*/README.md'):
         text = read(path)
-        known = dict(new)
+        known = {name: spelling for name, spelling in new.items() if name not in IN_THE_WAY}
         for word in set(TOKEN.findall(text)):
             if is_odd(word) and word not in known and snake(word) in now:
                 known[word] = snake(word)

@@ -1,5 +1,5 @@
-// A reader holds a record and the place of the count that it reads next. Its functions are proved by hand, step by step of the machine, so they
-// are few and hand on to those on the slice and the place; whoever has the slice asks `section_behind` and sees no reader.
+// A reader holds a record and the place of the count that it reads next. Its functions are few and hand on to those on the slice and
+// the place; whoever has the slice asks `section_behind` and sees no reader.
 ghost use Rattle.std.specs.Prelude.{◌≡◌, ◌^◌, ◌<◌};
 ghost use Rattle.rules.specs.Record.{section_at};
 ghost use Rattle.records.specs.Sections.{SectionIn};
