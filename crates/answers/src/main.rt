@@ -8,7 +8,6 @@ mod worked; // worked.rt: operations that are lent a working buffer too
 ghost use Rattle.std.specs.Prelude.{◌≡◌, length};
 
 use std::io;
-use std::io::{Read as Input, Write};
 use text::Read;
 
 // What a read brings: so many bytes are held of a line that has not ended, or the input ends.
@@ -47,7 +46,7 @@ fn room() -> [i32; 32768]
 }
 
 // Answers every line. A proved loop has to end, and nothing says that the input does: it has as many turns as no run uses up.
-fn answer_lines<R: Input, W: Write>(
+fn answer_lines<R: io::Read, W: io::Write>(
     input: &mut R,
     output: &mut W,
     line: &mut [u8],
@@ -67,7 +66,7 @@ fn answer_lines<R: Input, W: Write>(
 }
 
 // Reads once and answers the lines that end in what came, or the last line if the input ends in it.
-fn answer_some<R: Input, W: Write>(
+fn answer_some<R: io::Read, W: io::Write>(
     input: &mut R,
     output: &mut W,
     held: usize,
@@ -90,7 +89,7 @@ fn answer_some<R: Input, W: Write>(
 }
 
 // Answers the lines that end in these bytes; answers how many bytes are held of the line behind them.
-fn hear<W: Write>(
+fn hear<W: io::Write>(
     input: &[u8],
     output: &mut W,
     before: usize,
@@ -126,7 +125,7 @@ fn hold(byte: u8, held: usize, line: &mut [u8]) -> usize {
 }
 
 // Writes the answer to the line that is held.
-fn respond<W: Write>(
+fn respond<W: io::Write>(
     output: &mut W,
     held: usize,
     line: &[u8],
@@ -141,7 +140,7 @@ fn respond<W: Write>(
 }
 
 // Writes the first n bytes of a text.
-fn write<W: Write>(output: &mut W, out: &[u8], n: usize) -> io::Result<()> {
+fn write<W: io::Write>(output: &mut W, out: &[u8], n: usize) -> io::Result<()> {
     if n <= out.len() {
         return output.write_all(&out[0..n]);
     }

@@ -11,7 +11,6 @@ ghost use Rattle.exchange_records.specs.Growing.{PileLoaded, step_text, PairsWri
 
 use cells::Sign;
 use rules::{Refusal, Step};
-use std::io;
 use std::io::Write;
 use text::Read;
 
@@ -21,7 +20,7 @@ const LINE: usize = 32;
 const LINES: usize = 32768;
 
 // Answers standard input on standard output.
-fn main(rt: HostRuntime) -> io::Result<()> {
+fn main(rt: HostRuntime) -> std::io::Result<()> {
     let mut text = [0u8; 65537];
     let mut numbers = [0i32; 32768];
     let mut pile = [0i32; 28832];

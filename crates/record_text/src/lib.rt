@@ -13,12 +13,10 @@ ghost use Rattle.record_text.specs.Sections.{line_from, five_lines, InTurn};
 ghost use Rattle.record_text.specs.Texts.{ListRead};
 
 use rules::{Refusal, Walk};
-use std::io;
-use std::io::Read as Input;
 use text::Read;
 
 // The bytes of an input go to the front of a slice, to the input's end or as many as there is room for; answers how many.
-pub fn read_full<R: Input>(input: &mut R, buf: &mut [u8]) -> io::Result<usize>
+pub fn read_full<R: std::io::Read>(input: &mut R, buf: &mut [u8]) -> std::io::Result<usize>
     ensures { ReadsAtMost result buf.new }
 {
     let mut done = 0;
