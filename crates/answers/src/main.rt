@@ -7,7 +7,7 @@ mod worked; // worked.rt: operations that are lent a working buffer too
 
 ghost use Rattle.std.specs.Prelude.{◌≡◌, length};
 
-use libc::{STDIN_FILENO, STDOUT_FILENO};
+use std::io;
 use text::Read;
 
 // What a read brings: so many bytes are held of a line that has not ended, or the input ends.
@@ -17,14 +17,25 @@ enum Heard {
     End,
 }
 
+// How many bytes of a line are held, and how many are read at once.
+const BYTES: usize = 65536;
+
 // The buffers, and the lines answered with them.
-fn main() {
-    let mut line = io::large_buffer();
+fn main(rt: HostRuntime) -> io::Result<()> {
+    let mut line = [0u8; BYTES];
     let mut numbers = room();
     let mut result = room();
     let mut work = room();
-    let mut out = io::large_buffer();
-    answer_lines(&mut line, &mut numbers, &mut result, &mut work, &mut out);
+    let mut out = [0u8; BYTES];
+    answer_lines(
+        &mut rt.stdin(),
+        &mut rt.stdout(),
+        &mut line,
+        &mut numbers,
+        &mut result,
+        &mut work,
+        &mut out,
+    )
 }
 
 // Zeros, as many as a line can have numbers.
@@ -34,63 +45,66 @@ fn room() -> [i32; 32768]
     [0; 32768]
 }
 
-// Answers every line. A proved loop has to end, and nothing says that the input does: it counts its turns down, from a number that
-// no run uses up.
-fn answer_lines(
+// Answers every line. A proved loop has to end, and nothing says that the input does: it has as many turns as no run uses up.
+fn answer_lines<R: io::Read, W: io::Write>(
+    input: &mut R,
+    output: &mut W,
     line: &mut [u8],
     numbers: &mut [i32],
     res: &mut [i32],
     work: &mut [i32],
     out: &mut [u8],
-) {
+) -> io::Result<()> {
     let mut held = 0;
-    let mut turns: u64 = 1099511627776;
-    while 0 < turns {
-        let Heard::Held(n) = answer_some(held, line, numbers, res, work, out) else {
-            return;
-        };
-        held = n;
-        turns -= 1;
+    for _ in 0..u64::MAX {
+        match answer_some(input, output, held, line, numbers, res, work, out)? {
+            Heard::Held(n) => held = n,
+            Heard::End => break,
+        }
     }
+    Ok(())
 }
 
 // Reads once and answers the lines that end in what came, or the last line if the input ends in it.
-fn answer_some(
+fn answer_some<R: io::Read, W: io::Write>(
+    input: &mut R,
+    output: &mut W,
     held: usize,
     line: &mut [u8],
     numbers: &mut [i32],
     res: &mut [i32],
     work: &mut [i32],
     out: &mut [u8],
-) -> Heard {
-    let mut input = io::large_buffer();
-    let got = libc::read(STDIN_FILENO, &mut input);
-    let n = io::count(got, &input);
+) -> io::Result<Heard> {
+    let mut bytes = [0u8; BYTES];
+    let n = input.read(&mut bytes)?;
     if 0 < n {
-        return Heard::Held(hear(&input[0..n], held, line, numbers, res, work, out));
+        let left = hear(&bytes[0..n], output, held, line, numbers, res, work, out)?;
+        return Ok(Heard::Held(left));
     }
     if 0 < held {
-        respond(held, line, numbers, res, work, out);
+        respond(output, held, line, numbers, res, work, out)?;
     }
-    Heard::End
+    Ok(Heard::End)
 }
 
 // Answers the lines that end in these bytes; answers how many bytes are held of the line behind them.
-fn hear(
+fn hear<W: io::Write>(
     input: &[u8],
+    output: &mut W,
     before: usize,
     line: &mut [u8],
     numbers: &mut [i32],
     res: &mut [i32],
     work: &mut [i32],
     out: &mut [u8],
-) -> usize {
+) -> io::Result<usize> {
     let mut held = before;
     let mut i = 0;
     while i < input.len() {
         let byte = input[i];
         if byte == 10 {
-            respond(held, line, numbers, res, work, out);
+            respond(output, held, line, numbers, res, work, out)?;
             held = 0;
             i += 1;
         } else {
@@ -98,7 +112,7 @@ fn hear(
             i += 1;
         }
     }
-    held
+    Ok(held)
 }
 
 // One byte more of a line; answers how many are held, or more than there is room for if the line is too long.
@@ -111,24 +125,26 @@ fn hold(byte: u8, held: usize, line: &mut [u8]) -> usize {
 }
 
 // Writes the answer to the line that is held.
-fn respond(
+fn respond<W: io::Write>(
+    output: &mut W,
     held: usize,
     line: &[u8],
     numbers: &mut [i32],
     res: &mut [i32],
     work: &mut [i32],
     out: &mut [u8],
-) {
+) -> io::Result<()> {
     let end = answer_held(held, line, numbers, res, work, out);
     let n = replies::word(b"\n", out, end);
-    write(out, n);
+    write(output, out, n)
 }
 
 // Writes the first n bytes of a text.
-fn write(out: &[u8], n: usize) {
+fn write<W: io::Write>(output: &mut W, out: &[u8], n: usize) -> io::Result<()> {
     if n <= out.len() {
-        io::write_all(STDOUT_FILENO, &out[0..n]);
+        return output.write_all(&out[0..n]);
     }
+    Ok(())
 }
 
 // The answer to the line that is held, or that it is too long; answers how many bytes it has.

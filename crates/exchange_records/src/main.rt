@@ -11,6 +11,7 @@ ghost use Rattle.exchange_records.specs.Growing.{PileLoaded, step_text, PairsWri
 
 use cells::Sign;
 use rules::{Refusal, Step};
+use std::io::Write;
 use text::Read;
 
 // How many bytes are lent for a line, and for the five lines of a layout.
@@ -19,15 +20,15 @@ const LINE: usize = 32;
 const LINES: usize = 32768;
 
 // Answers standard input on standard output.
-fn main() {
+fn main(rt: HostRuntime) -> std::io::Result<()> {
     let mut text = [0u8; 65537];
     let mut numbers = [0i32; 32768];
     let mut pile = [0i32; 28832];
     let mut work = [0i32; rules::WORK_SIZE];
     let mut out = [0u8; 1048576];
-    let size = io::read_full(0, &mut text);
+    let size = record_text::read_full(&mut rt.stdin(), &mut text)?;
     let end = answer(&text[..size], &mut numbers, &mut pile, &mut work, &mut out);
-    io::write_all(1, &out[..end]);
+    rt.stdout().write_all(&out[..end])
 }
 
 // The answer to a text goes to the front of out; answers how many bytes it has.

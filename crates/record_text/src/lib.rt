@@ -1,7 +1,9 @@
-// Text for programs: a list of numbers read from it; records and refusals as lines, at the front of a lent slice of bytes.
+// Text for programs: an input read whole; a list of numbers read from it; records and refusals as lines, at the front of a lent slice
+// of bytes.
 #![tactic(auto)]
 
 ghost use Rattle.std.specs.Prelude.{◌≡◌, true, ◌+◌, ◌-◌, ◌*◌, ◌≤◌, length};
+ghost use Rattle.std.specs.Io.{ReadsAtMost};
 ghost use Rattle.rules.specs.Refusals.{number_of};
 ghost use Rattle.rules.specs.Record.{layout_in, sound};
 ghost use Rattle.text.specs.Placed.{Wrote};
@@ -12,6 +14,21 @@ ghost use Rattle.record_text.specs.Texts.{ListRead};
 
 use rules::{Refusal, Walk};
 use text::Read;
+
+// The bytes of an input go to the front of a slice, to the input's end or as many as there is room for; answers how many.
+pub fn read_full<R: std::io::Read>(input: &mut R, buf: &mut [u8]) -> std::io::Result<usize>
+    ensures { ReadsAtMost result buf.new }
+{
+    let mut done = 0;
+    while done < buf.len() {
+        let n = input.read(&mut buf[done..])?;
+        if n == 0 {
+            break;
+        }
+        done += n;
+    }
+    Ok(done)
+}
 
 // The numbers of a text go to the front of a slice. One byte over 65,536 is too much text.
 pub fn read_list(text: &[u8], numbers: &mut [i32]) -> Read

@@ -8,16 +8,18 @@ ghost use Rattle.record_text.specs.Fronts.{Front};
 ghost use Rattle.union_records.specs.Unions.{union_of, union_text};
 
 use rules::{Refusal, Written};
+use std::io;
+use std::io::Write;
 use text::Read;
 
 // Answers standard input on standard output.
-fn main() {
+fn main(rt: HostRuntime) -> io::Result<()> {
     let mut text = [0u8; 65537];
     let mut numbers = [0i32; 32768];
     let mut result = [0i32; rules::RESULT_SIZE];
     let mut work = [0i32; rules::WORK_SIZE];
     let mut out = [0u8; 32768];
-    let size = io::read_full(0, &mut text);
+    let size = record_text::read_full(&mut rt.stdin(), &mut text)?;
     let end = answer(
         &text[..size],
         &mut numbers,
@@ -25,7 +27,7 @@ fn main() {
         &mut work,
         &mut out,
     );
-    io::write_all(1, &out[..end]);
+    rt.stdout().write_all(&out[..end])
 }
 
 // The answer to a text goes to the front of out; answers how many bytes it has.
