@@ -10,7 +10,6 @@ use lib.ListN.{length, get_or, take, drop}
 use Rattle.rules.specs.declared.Head.{Head}
 use Rattle.rules.specs.Record.{natural, layout_in, shape_in, sound, ordered}
 use Rattle.rules.specs.Limits.{result_size}
-use Rattle.rules.specs.Layout.{Layout}
 use Rattle.rules.specs.Arguments.{up_to, over_record, short_result, good_components, good_index}
 use Rattle.rules.specs.Lookup.{good_indices, places_of, find_nnz_indices_call}
 use Rattle.rules.specs.Refusals.{given, refused, lowest}

@@ -1,0 +1,13 @@
+-- `common_shape`: what is answered for the shapes is answered for the records.
+use Rattle.lists.proofs.ByValue.{tuple_same}
+use Rattle.fold.proofs.Agreed.{shapes_judged, shapes_are}
+use Rattle.fold.proofs.agreeing.common_shape.Goals as goal
+
+pub agreed_shape-requires : goal.agreed_shape-requires
+agreed_shape-requires c = shapes_judged c.requires c.moved-shapes.ensures
+
+pub returns : goal.returns
+returns c = let told = c.agreed_shape.ensures in record {
+  is = tuple_same told.is (shapes_are c.requires c.moved-shapes.ensures);
+  few = told.few;
+}

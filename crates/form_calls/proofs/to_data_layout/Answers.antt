@@ -1,0 +1,45 @@
+-- `to_data_layout`: by the first reason that holds.
+use Prim.Native.Nat.{ℕ}
+use Rattle.judging.proofs.Judged.{judged}
+use Rattle.judging.proofs.Results.{ends_refused, ends_stepped, results}
+use Rattle.judging.proofs.SoundRecords.{heads}
+use Rattle.records.proofs.SoundRecords.{sound_record}
+use Rattle.rules.specs.CountsAndForms.{to_data_layout, from_record, to_data_layout_call}
+use Rattle.rules.specs.Record.{layout_in}
+use Rattle.rules.specs.Refusals.{Verdict, given, number_of}
+use Rattle.rules.specs.declared.Refusal.TheVariants.{OverCount, ShortBuffer, Unsound}
+use borrow.Author.Rules.{rules}
+use lib.IntN.{pos}
+use lib.ListN.{length}
+use mathlib.Core.List.{List, map}
+use Rattle.form_calls.proofs.to_data_layout.Goals as goal
+
+pub returns-then-over_record : goal.returns-then-over_record
+unfolding to_data_layout_call number_of
+returns-then-over_record c =
+    let call : Verdict (List ℕ) = from_record to_data_layout c.args.«record».now (length c.args.res.now) in
+    ends_refused (map pos) call OverCount (search (judged, results))
+
+pub returns-then-res-lt-PART : goal.returns-then-res-lt-PART
+unfolding to_data_layout_call number_of
+returns-then-res-lt-PART c =
+    let call : Verdict (List ℕ) = from_record to_data_layout c.args.«record».now (length c.args.res.now) in
+    ends_refused (map pos) call ShortBuffer (search (judged, results))
+
+pub returns-in_default : goal.returns-in_default
+unfolding to_data_layout_call number_of
+returns-in_default c =
+    let call : Verdict (List ℕ) = from_record to_data_layout c.args.«record».now (length c.args.res.now) in
+    ends_refused (map pos) call Unsound (search (judged, results, heads))
+
+pub to_data_layout-requires : goal.to_data_layout-requires
+to_data_layout-requires c = record {
+  sound_record = search sound_record;
+  result_size_in_bounds = search rules;
+}
+
+pub returns : goal.returns
+unfolding to_data_layout_call number_of
+returns c =
+    let call : Verdict (List ℕ) = from_record to_data_layout c.args.«record».now (length c.args.res.now) in
+    ends_stepped (map pos) call (given (to_data_layout (layout_in c.args.«record».now))) c.to_data_layout.ensures (search (judged, results, heads))

@@ -1,0 +1,16 @@
+-- `sum_dense_axis`: the rows are kept, and the head has one dense axis less.
+use native.Mathlib.Omega.{arith}
+use Rattle.reshape.proofs.Contracting.{ask_dense_axis, dense_axis_summed}
+use Rattle.reshape.proofs.contract.sum_dense_axis.Goals as goal
+
+pub keep_rows-requires : goal.keep_rows-requires
+keep_rows-requires c = record {
+  sound_record = c.requires.sum_asked.sound;
+  part_size_in_bounds = c.requires.sum_asked.room;
+}
+
+pub write_head-requires : goal.write_head-requires
+write_head-requires c = ask_dense_axis c.requires.sum_asked c.get-kind.ensures.0 c.keep_rows.ensures _ (omega arith)
+
+pub returns : goal.returns
+returns c = dense_axis_summed c.requires.sum_asked c.get-kind.ensures.0 c.keep_rows.ensures c.requires.width_lt_rank c.write_head.ensures
