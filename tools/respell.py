@@ -108,16 +108,26 @@ def fields(files):
 def turned(text, new, keep, field):
     """A text with each name spelled anew, but for a library's, and for what is projected and no field of the tree's."""
     modules = set(re.findall(r'^use \S+ as (\S+)$', text, re.M)) - {'tie', 'goal'}
+
     def one(match):
-        name, start = match[0], match.start()
+        name, start, row = match[0], match.start(), match.string
         if name not in new or name in keep:
             return name
-        if start > 1 and text[start - 1] == '.' and name not in field:
-            head = re.search(LETTER + r"+(?:\." + LETTER + r"+)*\.$", text[max(0, start - 200):start])
+        if start > 1 and row[start - 1] == '.' and name not in field:
+            head = re.search(LETTER + r"+(?:\." + LETTER + r"+)*\.$", row[max(0, start - 200):start])
             if head and head[0][0].islower() and head[0][:-1] not in modules:
                 return name
         return new[name]
-    return TOKEN.sub(one, text)
+
+    def prose(match):
+        return new[match[0]] if match[0] in new and '-' not in match[0] and match[0] not in keep else match[0]
+
+    def line(row):
+        code, mark, comment = row.partition('-- ')
+        spans = re.split(r'(`[^`]*`)', comment)
+        # outside of code spans a comment's words with a dash are plain words
+        return TOKEN.sub(one, code) + mark + ''.join(TOKEN.sub(one if k % 2 else prose, s) for k, s in enumerate(spans))
+    return '\n'.join(line(row) for row in text.split('\n'))
 
 
 def turn_spans(text, known):

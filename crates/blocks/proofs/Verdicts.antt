@@ -81,7 +81,7 @@ module _ (r : ℕ) (blocks : List Block) where
 
 -- ---- rows that turn dense
 
--- a well_formed_lem layout without dependencies is so as a dense one
+-- a well-formed layout without dependencies is so as a dense one
 dense_of : (l : Layout) → WellFormed l → l.states ≡ [] → l.inputs ≡ [] → WellFormed (to_dense l)
 unfolding to_dense sorted
 dense_of l f s i = record {

@@ -96,7 +96,7 @@ module _ {h : Head} {s : List ℤ} (p : Readable h s) where
 
 -- ---- one test after the other: `well_formed`
 
--- what is found of the rows of a record, by whether it is well_formed_lem
+-- what is found of the rows of a record, by whether it is well-formed
 abbrev found : Head → List ℤ → Fit
 found h s = fit_of (well_formed (layout_by h s)) (rows_increase h s)
 

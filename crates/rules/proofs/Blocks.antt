@@ -28,7 +28,7 @@ use Rattle.rules.proofs.Lowering.{Lowered, lowered_diagonal, lowered_is}
 use Rattle.rules.proofs.Low.{below_at, at_below}
 use Rattle.rules.proofs.MovedBy.{moved_by_length, moved_by_at}
 
--- a block with a well_formed_lem layout and a start of r numbers
+-- a block with a well-formed layout and a start of r numbers
 pub record FormedBlock (r : ℕ) (b : Block) : Type 0 where
   pub form : WellFormed b.layout
   pub size : length b.start ≡ r

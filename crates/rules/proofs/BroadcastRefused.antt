@@ -7,8 +7,8 @@ use lib.ListN.{length}
 use Rattle.rules.specs.declared.Mode.{Mode}
 use Rattle.rules.specs.declared.Rule.{Rule}
 use Rattle.rules.specs.declared.Rule.TheVariants.{Unite, Multiply, Divide}
-use Rattle.rules.specs.Lists.{all, none, product}
-use Rattle.rules.specs.Refusals.{given, ◌then◌, Reason, ◌when◌, lowest}
+use Rattle.rules.specs.Lists.{none, product}
+use Rattle.rules.specs.Refusals.{given, Reason, ◌when◌, lowest}
 use Rattle.rules.specs.Layout.{Layout, rank, is_sparse, within_product}
 use Rattle.rules.specs.Shapes.{shapes_agree, common_shape, broadcast_shapes}
 use Rattle.rules.specs.Stretching.{broadcast_to_shape}

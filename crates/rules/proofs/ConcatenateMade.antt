@@ -65,7 +65,7 @@ module _ {r : ℕ} {blocks : List Block} (p : FormedBlocks r blocks) where
   pub inputs_joined : (l : Layout) → rank l ≡ r → DepsFit l (joined_deps r (λ x. x.inputs) blocks)
   inputs_joined l e = joined_fit l e (λ x. x.inputs) (λ x s. s.inputs_fit.lengths)
 
-  -- so a well_formed_lem layout of that rank is well formed with them
+  -- so a well-formed layout of that rank is well formed with them
   pub form_joined : (l : Layout) → rank l ≡ r → WellFormed l → WellFormed (joined_full r blocks l)
   form_joined l e f = record {
     kind_most = f.kind_most;

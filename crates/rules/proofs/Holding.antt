@@ -110,7 +110,7 @@ pub data Whole (l : Layout) : Type 0 where
   whole_diagonal : l.kind ≡ 1 → l.dense ≡ 0 → Whole l
   whole_sparse : l.kind ≡ 2 → l.dense ≡ 0 → Whole l
 
--- a well_formed_lem layout with no dense axis is so
+-- a well-formed layout with no dense axis is so
 pub no_dense_whole : {l : Layout} → WellFormed l → l.dense ≡ 0 → Whole l
 no_dense_whole {l} w d = by (one_kind w)
   where

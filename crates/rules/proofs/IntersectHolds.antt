@@ -132,6 +132,6 @@ module _ (a b : Layout) (e : a.shape ≡ b.shape) (index : List ℕ) where
 
 -- ---- the intersection
 
--- what an intersection of two well_formed_lem layouts holds: what both do
+-- what an intersection of two well-formed layouts holds: what both do
 pub intersect_holds : {a b l : Layout} → WellFormed a → WellFormed b → intersect a b ≡ given l → (index : List ℕ) → holds l index ≡ holds a index && holds b index
 intersect_holds {a} {b} {l} p q u index = let g = intersect_gives a b u in met_holds a b g.shapes index p q g.met

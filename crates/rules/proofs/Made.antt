@@ -27,7 +27,7 @@ few_or l = if (few l.rows && few l.states && few l.inputs) (given l) (refused 13
 abbrev pub sized_or : Layout → Verdict Layout
 sized_or l = if (within_sizes l) (given l) (refused 13)
 
--- a well_formed_lem layout that is made is given unless it passes a limit of size
+-- a well-formed layout that is made is given unless it passes a limit of size
 pub form_made : {l : Layout} → WellFormed l → made l ≡ sized_or l
 unfolding made lowest
 form_made {l} f = rw (true_well_formed f) (by (within_sizes l))

@@ -15,7 +15,6 @@ use Rattle.rules.specs.RowsInOrder.{In}
 use Rattle.rules.specs.Refusals.{given, ◌when◌}
 use Rattle.rules.specs.Layout.{Layout, rank, width, is_diagonal, is_sparse, alike, made}
 use Rattle.rules.specs.Soundness.{WellFormed, Sound}
-use Rattle.rules.specs.Record.{sound}
 use Rattle.rules.specs.Dependencies.{index_of}
 use Rattle.rules.specs.CountsAndForms.{to_dense}
 use Rattle.rules.specs.Holding.{is_position}

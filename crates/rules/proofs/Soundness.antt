@@ -58,7 +58,7 @@ true_deps_small l deps f = each_all _ deps (λ d m. at_small (rank l) d (f d m))
 
 -- ---- soundness other than by size
 
--- the tests of a well_formed_lem layout behind the first one
+-- the tests of a well-formed layout behind the first one
 abbrev form_tests : Layout → List Bool
 form_tests l =
     leb l.dense (rank l)
@@ -180,7 +180,7 @@ pub data OneKind (l : Layout) : Type 0 where
   sparse_case : l.kind ≡ 2 → OneKind l
 
 module _ {l : Layout} (w : WellFormed l) where
-  -- a well_formed_lem layout is dense, diagonal or sparse
+  -- a well-formed layout is dense, diagonal or sparse
   pub one_kind : OneKind l
   one_kind = by l.kind refl w.kind_most
     where

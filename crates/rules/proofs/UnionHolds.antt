@@ -126,7 +126,7 @@ module _ (a b : Layout) (e : a.shape ≡ b.shape) (index : List ℕ) where
 
 -- ---- the union
 
--- what a union of two well_formed_lem layouts holds: what either does
+-- what a union of two well-formed layouts holds: what either does
 pub union_holds : {a b l : Layout} → WellFormed a → WellFormed b → union a b ≡ given l → (index : List ℕ) → holds l index ≡ holds a index || holds b index
 union_holds {a} {b} {l} p q u index =
     let g = union_gives a b u in

@@ -1,5 +1,5 @@
 -- Numbers in a lent slice: a part of it, and what it holds after a part was written.
-use Rattle.std.specs.Prelude.{List, ◌++◌, ℕ, ◌+◌, length, take, drop, replicate, ℤ, pos}
+use Rattle.std.specs.Prelude.{List, ◌++◌, ℕ, length, take, drop, replicate, ℤ, pos}
 
 -- n elements from a on
 unfoldable pub part : {A : Type 0} → ℕ → ℕ → List A → List A

@@ -1,0 +1,74 @@
+-- `contract_last_axis`: what is judged, the step in the first part of the working buffer, and the end of the call.
+use mathlib.Core.List.{[]}
+use native.Mathlib.Omega.{arith}
+use lib.ListN.{length, length-take}
+use Rattle.rules.specs.Record.{layout_in}
+use Rattle.rules.specs.Arguments.{over_record}
+use Rattle.rules.specs.ContractLastAxis.{contract_last_axis, contract_last_axis_call}
+use Rattle.rules.proofs.RefusedWith.{contract_refusing_sound}
+use Rattle.records.specs.Sound.{SoundRecord}
+use Rattle.records.proofs.SoundRecords.{sound_record, layout_sound}
+use Rattle.parts.proofs.Ending.{AboveTwo}
+use Rattle.judging.specs.LentSizes.{SizesKept}
+use Rattle.judging.proofs.RecordCalls.{record_early, record_kept, record_unsound, record_says, record_done}
+use Rattle.judging.proofs.Endings.{nothing_more}
+use Rattle.reshape_calls.proofs.contract_last_axis.Goals as goal
+
+pub returns-in-Refused : goal.returns-in-Refused
+unfolding contract_last_axis_call
+returns-in-Refused c = let a = c.args in
+    record_early (over_record a.«record».now) [] (contract_last_axis (layout_in a.«record».now)) a.«record».now a.res.now a.work.now c.over_record-over.ensures c.judge_sizes.ensures c.in-Refused.is
+
+pub refuse-requires : goal.refuse-requires
+refuse-requires c =
+    let kept : SizesKept (over_record c.args.«record».now) (length c.args.res.now) (length c.args.work.now) = let a = c.args in
+    record_kept (over_record a.«record».now) [] (contract_last_axis (layout_in a.«record».now)) a.«record».now a.res.now a.work.now c.over_record-over.ensures c.judge_sizes.ensures c.in_default.is in
+    kept.work_long
+
+pub returns-in_default-sound_head : goal.returns-in_default-sound_head
+unfolding contract_last_axis_call
+returns-in_default-sound_head c =
+    let kept : SizesKept (over_record c.args.«record».now) (length c.args.res.now) (length c.args.work.now) = let a = c.args in
+    record_kept (over_record a.«record».now) [] (contract_last_axis (layout_in a.«record».now)) a.«record».now a.res.now a.work.now c.over_record-over.ensures c.judge_sizes.ensures c.in_default.is in
+    let a = c.args in
+    record_unsound (over_record a.«record».now) [] (contract_last_axis (layout_in a.«record».now)) a.«record».now a.res.now a.work.now kept tt c.sound_head.ensures.is c.in_default-sound_head.is c.refuse.ensures
+
+pub slice_bounds-contract_into-end : goal.slice_bounds-contract_into-end
+slice_bounds-contract_into-end c =
+    let kept : SizesKept (over_record c.args.«record».now) (length c.args.res.now) (length c.args.work.now) = let a = c.args in
+    record_kept (over_record a.«record».now) [] (contract_last_axis (layout_in a.«record».now)) a.«record».now a.res.now a.work.now c.over_record-over.ensures c.judge_sizes.ensures c.in_default.is in
+    let sized : SizesKept (over_record c.args.«record».now) (length c.args.res.now) (length c.args.work.now) = kept in
+    omega (arith, sized.work_long)
+
+pub contract_into-step-requires : goal.contract_into-step-requires
+contract_into-step-requires c =
+    let kept : SizesKept (over_record c.args.«record».now) (length c.args.res.now) (length c.args.work.now) = let a = c.args in
+    record_kept (over_record a.«record».now) [] (contract_last_axis (layout_in a.«record».now)) a.«record».now a.res.now a.work.now c.over_record-over.ensures c.judge_sizes.ensures c.in_default.is in
+    let sized : SizesKept (over_record c.args.«record».now) (length c.args.res.now) (length c.args.work.now) = kept in
+    let judged : SoundRecord c.in-To.head c.args.«record».now = sound_record _ c.sound_head.ensures.is c.sound_head.ensures.readable c.in-To.is in record {
+      sound_record = judged;
+      part_size_in_bounds = simp length-take (omega (arith, sized.work_long));
+    }
+
+pub finish-requires : goal.finish-requires
+finish-requires c =
+    let kept : SizesKept (over_record c.args.«record».now) (length c.args.res.now) (length c.args.work.now) = let a = c.args in
+    record_kept (over_record a.«record».now) [] (contract_last_axis (layout_in a.«record».now)) a.«record».now a.res.now a.work.now c.over_record-over.ensures c.judge_sizes.ensures c.in_default.is in
+    let sized : SizesKept (over_record c.args.«record».now) (length c.args.res.now) (length c.args.work.now) = kept in
+    let judged : SoundRecord c.in-To.head c.args.«record».now = sound_record _ c.sound_head.ensures.is c.sound_head.ensures.readable c.in-To.is in
+    let a = c.args in
+    let k = sized in record {
+      work_size_in_bounds = (omega (arith, c.work-2-1.given.1, k.work_long), k.result_long);
+      holds = (record_says (over_record a.«record».now) [] (contract_last_axis (layout_in a.«record».now)) a.«record».now a.res.now a.work.now k tt judged c.work-2-1.given.0 c.contract_into-step.ensures).holds;
+    }
+
+pub returns : goal.returns
+unfolding contract_last_axis_call
+returns c =
+    let kept : SizesKept (over_record c.args.«record».now) (length c.args.res.now) (length c.args.work.now) = let a = c.args in
+    record_kept (over_record a.«record».now) [] (contract_last_axis (layout_in a.«record».now)) a.«record».now a.res.now a.work.now c.over_record-over.ensures c.judge_sizes.ensures c.in_default.is in
+    let sized : SizesKept (over_record c.args.«record».now) (length c.args.res.now) (length c.args.work.now) = kept in
+    let judged : SoundRecord c.in-To.head c.args.«record».now = sound_record _ c.sound_head.ensures.is c.sound_head.ensures.readable c.in-To.is in
+    let a = c.args in
+    record_done (over_record a.«record».now) [] (contract_last_axis (layout_in a.«record».now)) a.«record».now a.res.now a.work.now sized tt judged c.work-2-1.given.0 c.contract_into-step.ensures
+    nothing_more (contract_refusing_sound AboveTwo (omega arith) (layout_sound judged)) c.finish.ensures
