@@ -61,6 +61,7 @@ def archive():
     built, kept = os.path.join(TREE, 'crates', 'port', 'out', 'libport.a'), os.path.join(FOLDER, 'libport.a')
     if not os.path.exists(kept) or not filecmp.cmp(built, kept, shallow=False):
         shutil.copy(built, kept)
+    shutil.rmtree(TREE)
     return kept
 
 
