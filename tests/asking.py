@@ -27,7 +27,7 @@ sys.excepthook = in_a_line
 if sys.version_info < (3, 9):
     sys.exit('not run: python3 is %d.%d here, and the tests need 3.9 or later' % sys.version_info[:2])
 
-import functools, platform, re, shutil, subprocess
+import functools, re, shutil, subprocess
 
 ROOT = os.path.dirname(os.path.dirname(os.path.abspath(__file__)))
 READING = os.path.join(ROOT, 'tests', 'reading')
@@ -173,8 +173,7 @@ def program(name):
     run = subprocess.run([os.path.join(ROOT, 'run'), name], input=WHOLE[name], stdout=subprocess.DEVNULL)
     if run.returncode:
         sys.exit('not run: ./run %s ended with %d' % (name, run.returncode))
-    built = os.path.join(ROOT, 'target', 'bin', name)
-    return [built] if platform.machine() == 'x86_64' else [os.path.join(ROOT, 'run'), name]
+    return [os.path.join(ROOT, 'target', 'bin', name)]
 
 
 def printed(name, text):
@@ -184,7 +183,6 @@ def printed(name, text):
         run = subprocess.run(words, input=text.encode(), capture_output=True, cwd=ROOT, timeout=60)
     except subprocess.TimeoutExpired:
         sys.exit('failed: %s did not end in a minute on %.300r' % (name, text))
-    # ./run ends with 1 where a text is refused, the program itself with 0
-    if run.returncode not in ((0,) if len(words) == 1 else (0, 1)):
+    if run.returncode:
         sys.exit('failed: %s ended with %d on %.300r' % (name, run.returncode, text))
     return run.stdout.decode()

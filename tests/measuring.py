@@ -1,8 +1,8 @@
 """How tests/speed builds the port and the Rust, and how it compares, counts and times their calls.
 
-The port is built as it is delivered, by `rt staticlib`, from the crate in tests/speed-port.txt. That crate stands in a
-scratch tree below target/speed, beside links to the crates of this repository and to what is proved of them. The
-program that calls both sides is oracle/src/speed.rs.
+The port is built as it is delivered, by `rt lib`, from the crate in tests/speed-port.txt. That crate stands in a
+scratch tree below target/speed, beside a copy of the crates of this repository. The program that calls both sides is
+oracle/src/speed.rs.
 """
 from asking import ORACLE, ROOT, SOURCES, need_kit, need_rust
 import collections, filecmp, os, platform, shutil, subprocess, sys
@@ -47,23 +47,21 @@ def told(words, cwd, errors=None, **environment):
 
 
 def archive():
-    """The port's archive. What is proved here is not proved again in the scratch tree: its files are the same."""
+    """The port's archive. Of what is proved here already the build of the scratch tree takes its own copy."""
     say('proving the port, where it is not proved yet')
-    told(['rt', 'check', 'layout'], ROOT, subprocess.STDOUT)
+    told(['rt', 'check'], os.path.join(ROOT, 'crates', 'layout'), subprocess.STDOUT)
     say('building the port')
     shutil.rmtree(TREE, ignore_errors=True)
+    shutil.copytree(os.path.join(ROOT, 'crates'), os.path.join(TREE, 'crates'), ignore=shutil.ignore_patterns('out'))
     os.makedirs(os.path.join(TREE, 'crates', 'port', 'src'))
-    os.makedirs(os.path.join(TREE, 'target'))
-    links = [os.path.join('crates', crate) for crate in os.listdir(os.path.join(ROOT, 'crates'))]
-    for path in links + [os.path.join('target', 'rlib'), os.path.join('target', 'stamp')]:
-        os.symlink(os.path.join(ROOT, path), os.path.join(TREE, path))
     shutil.copy(PORT, os.path.join(TREE, 'crates', 'port', 'src', 'lib.rt'))
     with open(os.path.join(ROOT, 'crates.txt')) as crates, open(os.path.join(TREE, 'crates.txt'), 'w') as more:
-        more.write(crates.read() + 'port: rules layout\n')
-    told(['rt', 'staticlib', 'port'], TREE, subprocess.STDOUT)
-    built, kept = os.path.join(TREE, 'target', 'staticlib', 'libport.a'), os.path.join(FOLDER, 'libport.a')
+        more.write(crates.read() + 'port staticlib: rules layout\n')
+    told(['rt', 'lib'], os.path.join(TREE, 'crates', 'port'), subprocess.STDOUT)
+    built, kept = os.path.join(TREE, 'crates', 'port', 'out', 'libport.a'), os.path.join(FOLDER, 'libport.a')
     if not os.path.exists(kept) or not filecmp.cmp(built, kept, shallow=False):
         shutil.copy(built, kept)
+    shutil.rmtree(TREE)
     return kept
 
 

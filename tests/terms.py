@@ -67,15 +67,14 @@ def reached(names, words):
 
 def asked_name(op):
     """The name under which an operation's call is asked, all unfolded."""
-    name = CALLS[op][1].removesuffix('Call')
-    return 'ask' + name[0].upper() + name[1:]
+    return 'ask_' + CALLS[op][1].removesuffix('_call')
 
 
 def words_of_answers(library):
     """The lines that bring in what examples are written in."""
-    return ['use mathlib.Core.Path.{_≡_, refl}', 'use mathlib.Core.Bool.{Bool, true, false}',
-            'use mathlib.Core.List.{List, [], _∷_, map}', 'use Prim.Native.Nat.{ℕ}', 'use lib.IntN.{ℤ, pos, negsuc}',
-            'use %s.declared.Ordering.{Ordering}' % library, 'use %s.declared.Ordering.the-variants.{Less, Equal, Greater}' % library]
+    return ['use mathlib.Core.Path.{◌≡◌, refl}', 'use mathlib.Core.Bool.{Bool, true, false}',
+            'use mathlib.Core.List.{List, [], ◌∷◌, map}', 'use Prim.Native.Nat.{ℕ}', 'use lib.IntN.{ℤ, pos, negsuc}',
+            'use %s.declared.Ordering.{Ordering}' % library, 'use %s.declared.Ordering.TheVariants.{Less, Equal, Greater}' % library]
 
 
 def asked(library):

@@ -32,19 +32,9 @@ answer_text() {
 # Runs the program; a copy of what it prints goes to a file.
 print() { # FILE
     : > "$room/ended"
-    { start || echo "$?" > "$room/ended"; } | tee "$1" 2> /dev/null ||
+    { "$program" || echo "$?" > "$room/ended"; } | tee "$1" 2> /dev/null ||
         die 2 "the answer could not be written: standard output is full or closed"
     [ ! -s "$room/ended" ] || die 2 "$name ended with status $(cat "$room/ended")"
-}
-
-# The program itself: it is for x86-64, and the kit has an emulator for other machines.
-start() {
-    if [ "$(uname -m)" = x86_64 ]; then
-        "$program"
-    else
-        emulated=$(dirname "$(dirname "$(rt doc)")")/on/$(uname -m)/toolchain
-        "$emulated/bin/qemu-x86_64" "$emulated/lib/ld-linux-x86-64.so.2" --library-path "$emulated/lib" "$program"
-    fi
 }
 
 # What a refusal means, from the table in docs/RECORD.md.

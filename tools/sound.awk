@@ -1,4 +1,4 @@
-# What makes a record unsound that can be read: the rules of crates/rules/specs/Layout.antt, `soundLayout`. It goes with
+# What makes a record unsound that can be read: the rules of crates/rules/specs/Layout.antt, `sound_layout`. It goes with
 # reading.awk, and keeps what is wrong in the same place, `broken`.
 
 # The first rule that the record at a place breaks.
