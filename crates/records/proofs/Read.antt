@@ -1,5 +1,6 @@
 -- What is left by a call that reads a section: the token of the record's lifetime, and the section, of which two facts are known. Every
 -- function that answers a section leaves this, whatever it was handed, so a walk over such a call names no contract. Assumes `Logic`.
+-- No proof cites these laws now: the check finds the walks over the reader's functions alone.
 use mathlib.Core.Path.{◌≡◌}
 use mathlib.Core.List.{List, [], ◌∷◌}
 use Prim.Native.Nat.{ℕ}

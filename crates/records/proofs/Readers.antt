@@ -1,4 +1,5 @@
 -- What a reader owns: its slice's part can be had beside it, since a `&[i32]` may be copied; and a slice with a place makes a reader. Assumes `Logic`.
+-- No proof cites these laws now: the check finds the walks over the reader's functions alone.
 use mathlib.Core.Path.{◌≡◌, refl}
 use mathlib.Core.List.{List, [], ◌∷◌}
 use Prim.Native.Nat.{ℕ, ◌<◌, ◌^◌}
