@@ -70,16 +70,17 @@ def asked_name(op):
     return 'ask_' + CALLS[op][1].removesuffix('_call')
 
 
-def words_of_answers(library):
+def words_of_answers():
     """The lines that bring in what examples are written in."""
     return ['use mathlib.Core.Path.{◌≡◌, refl}', 'use mathlib.Core.Bool.{Bool, true, false}',
             'use mathlib.Core.List.{List, [], ◌∷◌, map}', 'use Prim.Native.Nat.{ℕ}', 'use lib.IntN.{ℤ, pos, negsuc}',
-            'use %s.declared.Ordering.{Ordering}' % library, 'use %s.declared.Ordering.TheVariants.{Less, Equal, Greater}' % library]
+            'use Rattle.std.specs.declared.cmp.Ordering.{Ordering}',
+            'use Rattle.std.specs.declared.cmp.Ordering.TheVariants.{Less, Equal, Greater}']
 
 
 def asked(library):
     """The calls with all that they compute with unfolded, for a file that finds the rules' specs under a name."""
-    modules, words, lines = unfoldables(), mentions(), words_of_answers(library)
+    modules, words, lines = unfoldables(), mentions(), words_of_answers()
     for module in sorted(set(modules) | set(WORDS)):
         lines.append('use %s.%s.{%s}' % (library, module, ', '.join(modules.get(module, []) + WORDS.get(module, []))))
     lines += ['', '-- numbers of a slice, none of them negative', 'abbrev pub nums : List ℕ → List ℤ', 'nums l = map pos l', '']

@@ -1,37 +1,34 @@
 // Operations that are lent a result buffer. The last number of a request is its length.
-use requests::{list, number};
+use replies::Reply;
+use requests::Request;
 
 // The answer to a request, which is lent as much of the result as it asks for.
-pub fn lend(request: &[i32], at: [usize; 7], res: &mut [i32], out: &mut [u8]) -> usize {
-    let n = requests::length(request, 1, res.len());
-    answer(request, at, &mut res[0..n], out)
+pub fn lend(request: &Request, res: &mut [i32], reply: &mut Reply) {
+    let n = request.length(0, res.len());
+    answer(request, &mut res[..n], reply)
 }
 
-// The answer to a request whose arguments stand at the places; unknown if the operation is not there yet.
-fn answer(request: &[i32], at: [usize; 7], res: &mut [i32], out: &mut [u8]) -> usize {
-    let first = list(request, at[0]);
+// The answer to a request; unknown if the operation is not there yet.
+fn answer(request: &Request, res: &mut [i32], reply: &mut Reply) {
+    let first = request.list(0);
     requests::fill(res);
-    match number(request, 0) {
-        12 => replies::record(layout::to_dense(first, res), res, out),
-        13 => replies::record(layout::new_empty(number(request, at[0]), res), res, out),
-        14 => replies::record(layout::new_scalar(res), res, out),
-        15 => replies::record(layout::dense(first, res), res, out),
-        16 => replies::record(layout::diagonal(first, res), res, out),
+    match request.operation() {
+        12 => reply.record(layout::to_dense(first, res), res),
+        13 => reply.record(layout::new_empty(request.number(0), res), res),
+        14 => reply.record(layout::new_scalar(res), res),
+        15 => reply.record(layout::dense(first, res), res),
+        16 => reply.record(layout::diagonal(first, res), res),
         17 => {
-            let count = number(request, at[1]);
-            let rows = list(request, at[2]);
-            replies::record(layout::sparse(first, count, rows, res), res, out)
+            let count = request.number(1);
+            let rows = request.list(2);
+            reply.record(layout::sparse(first, count, rows, res), res)
         }
-        18 => replies::counted(layout::to_data_layout(first, res), res, out),
+        18 => reply.counted(layout::to_data_layout(first, res), res),
         35 => {
-            let count = number(request, at[1]);
-            let indices = list(request, at[2]);
-            replies::counted(
-                layout::find_nnz_indices(first, count, indices, res),
-                res,
-                out,
-            )
+            let count = request.number(1);
+            let indices = request.list(2);
+            reply.counted(layout::find_nnz_indices(first, count, indices, res), res)
         }
-        _ => replies::word(b"unknown", out, 0),
+        _ => reply.word(b"unknown"),
     }
 }

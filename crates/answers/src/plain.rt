@@ -1,24 +1,24 @@
 // Operations that are lent no buffer.
-use requests::{list, number};
+use replies::Reply;
+use requests::Request;
 
-// The answer to a request whose arguments stand at the places; unknown if the operation is not there yet.
-pub fn answer(request: &[i32], at: [usize; 7], out: &mut [u8]) -> usize {
-    let first = list(request, at[0]);
-    let second = list(request, at[1]);
-    match number(request, 0) {
-        1 => replies::tuple(layout::broadcast_shapes(first, number(request, at[1])), out),
-        2 => replies::test(layout::can_broadcast_to(first, second), out),
-        3 => replies::number(layout::ravel_index(first, second), out),
-        4 => replies::tuple(layout::unravel_index(number(request, at[0]), second), out),
-        5 => replies::comparison(layout::cmp_index(first, second), out),
-        7 => replies::place(layout::find_nnz_index(first, second), out),
-        8 => replies::number(layout::nnz(first), out),
-        9 => replies::number(layout::min_rank(first), out),
-        10 => replies::test(layout::eq_nonzeros(first, second), out),
-        11 => replies::test(layout::eq_nonzeros_and_deps(first, second), out),
-        29 => replies::flag(layout::sound(first), out),
-        30 => replies::flag(layout::ordered(first), out),
-        31 => replies::part(layout::row(first, number(request, at[1])), out),
-        _ => replies::word(b"unknown", out, 0),
+// The answer to a request; unknown if the operation is not there yet.
+pub fn answer(request: &Request, reply: &mut Reply) {
+    let first = request.list(0);
+    match request.operation() {
+        1 => reply.tuple(layout::broadcast_shapes(first, request.number(1))),
+        2 => reply.test(layout::can_broadcast_to(first, request.list(1))),
+        3 => reply.number(layout::ravel_index(first, request.list(1))),
+        4 => reply.tuple(layout::unravel_index(request.number(0), request.list(1))),
+        5 => reply.comparison(layout::cmp_index(first, request.list(1))),
+        7 => reply.place(layout::find_nnz_index(first, request.list(1))),
+        8 => reply.number(layout::nnz(first)),
+        9 => reply.number(layout::min_rank(first)),
+        10 => reply.test(layout::eq_nonzeros(first, request.list(1))),
+        11 => reply.test(layout::eq_nonzeros_and_deps(first, request.list(1))),
+        29 => reply.flag(layout::sound(first)),
+        30 => reply.flag(layout::ordered(first)),
+        31 => reply.part(layout::row(first, request.number(1))),
+        _ => reply.word(b"unknown"),
     }
 }

@@ -129,12 +129,10 @@ fn differ_by_numbers(s: &[i32], a: usize, n: usize, t: &[i32], at: usize, w: usi
     ensures { result ≡ distinct (rows_at a w n s.now) }
 {
     let size = product(t, at, w);
-    let mut from = 0;
-    while from < size {
+    for from in (0..size).step_by(4096) {
         if !differ_in_window(s, a, n, t, at, w, from) {
             return false;
         }
-        from += 4096;
     }
     true
 }
@@ -168,9 +166,7 @@ pub fn unravel_into(number: usize, s: &[i32], at: usize, rank: usize, out: &mut 
     ensures { out.new ≡ put to (map pos (unravel number (row_at at rank s.now))) out.old }
 {
     let mut left = number;
-    let mut k = rank;
-    while 0 < k {
-        k -= 1;
+    for k in (0..rank).rev() {
         let extent = cells::get(s, at + k);
         cells::store(out, to + k, left % extent);
         left /= extent;

@@ -12,13 +12,16 @@ use lib.IntN.{ℤ}
 use lib.ListN.{length, get_or, take, drop, length-map, drop_of_length-le, get_or-map}
 use lib.Seq.{drop-cons}
 use Rattle.rules.specs.Lists.{all, keep}
-use Rattle.rules.specs.Layout.{Layout, rank}
+use Rattle.rules.specs.declared.Kind.{Kind}
+use Rattle.rules.specs.declared.Kind.TheVariants as kinds
+use Rattle.rules.specs.Layout.{Layout, rank, kind_of}
 use Rattle.rules.specs.Soundness.{Sound}
 use Rattle.rules.specs.Record.{layout_in, sound}
 use Rattle.rules.specs.Concatenate.{first_d}
 use Rattle.rules.proofs.Tests.{all_each}
 use Rattle.rules.proofs.ReadBack.{layout_sound}
 use Rattle.rules.proofs.Blocks.{first_low}
+use Rattle.rules.proofs.KindRead.{dense_number, diagonal_number, sparse_number, not_dense, not_diagonal, not_sparse}
 use Rattle.tables.proofs.Passing.{Passed, none_passed, one_more, one_fails, all_passed}
 use Rattle.lists.specs.Places.{standing, Inside, EachAt}
 use Rattle.lists.specs.Records.{layouts_at}
@@ -46,24 +49,30 @@ module _ {ask : Ask} (l : Layout) where
   pub rank_asked : {r n : ℕ} → ask ≡ OfRank r → n ≡ rank l → eqb n r ≡ asked ask l
   rank_asked e f = rw (e, f)
 
-  pub dense_asked : {k : ℕ} → ask ≡ Dense → k ≡ l.kind → eqb k 0 ≡ asked ask l
-  dense_asked e f = rw (e, f)
+  module _ {k : Kind} (f : k ≡ kind_of l.kind) where
+    pub dense_asked : ask ≡ Dense → k ≡ kinds.Dense → true ≡ asked ask l
+    dense_asked e g = rw (e, dense_number f g)
 
-  pub sparse_asked : {k : ℕ} → ask ≡ Sparse → k ≡ l.kind → eqb k 2 ≡ asked ask l
-  sparse_asked e f = rw (e, f)
+    pub not_dense_asked : ask ≡ Dense → (k ≡ kinds.Dense → ⊥) → false ≡ asked ask l
+    not_dense_asked e g = rw (e, ne_eqb l.kind 0 (not_dense f g))
 
-  module _ {k : ℕ} (f : k ≡ l.kind) where
-    pub diagonal_asked : ask ≡ Diagonal → k ≡ 1 → true ≡ asked ask l
-    diagonal_asked e g = rw (e, ← f, g)
+    pub sparse_asked : ask ≡ Sparse → k ≡ kinds.Sparse → l.kind ≤ 2 → true ≡ asked ask l
+    sparse_asked e g h = rw (e, sparse_number f g h)
 
-    pub ones_asked : {b : Bool} → ask ≡ Diagonal → (k ≡ 1 → ⊥) → b ≡ all (eqb 1) l.shape → b ≡ asked ask l
-    ones_asked e g h = rw (e, ← f, ne_eqb k 1 g) h
+    pub not_sparse_asked : ask ≡ Sparse → (k ≡ kinds.Sparse → ⊥) → false ≡ asked ask l
+    not_sparse_asked e g = rw (e, ne_eqb l.kind 2 (not_sparse f g))
 
-    pub no_axes_asked : {d : ℕ} → ask ≡ DenseAxes d → k ≡ 0 → true ≡ asked ask l
-    no_axes_asked e g = rw (e, ← f, g)
+    pub diagonal_asked : ask ≡ Diagonal → k ≡ kinds.Diagonal → true ≡ asked ask l
+    diagonal_asked e g = rw (e, diagonal_number f g)
 
-    pub axes_asked : {d n : ℕ} → ask ≡ DenseAxes d → (k ≡ 0 → ⊥) → n ≡ l.dense → eqb n d ≡ asked ask l
-    axes_asked e g h = rw (e, ← f, ne_eqb k 0 g, h)
+    pub ones_asked : {b : Bool} → ask ≡ Diagonal → (k ≡ kinds.Diagonal → ⊥) → b ≡ all (eqb 1) l.shape → b ≡ asked ask l
+    ones_asked e g h = rw (e, ne_eqb l.kind 1 (not_diagonal f g)) h
+
+    pub no_axes_asked : {d : ℕ} → ask ≡ DenseAxes d → k ≡ kinds.Dense → true ≡ asked ask l
+    no_axes_asked e g = rw (e, dense_number f g)
+
+    pub axes_asked : {d n : ℕ} → ask ≡ DenseAxes d → (k ≡ kinds.Dense → ⊥) → n ≡ l.dense → eqb n d ≡ asked ask l
+    axes_asked e g h = rw (e, ne_eqb l.kind 0 (not_dense f g), h)
 
   module _ {axis common e : ℕ} (f : e ≡ get_or l.shape axis 1) (g : ask ≡ Stretches axis common) where
     pub one_asked : e ≡ 1 → true ≡ asked ask l
@@ -75,7 +84,11 @@ module _ {ask : Ask} (l : Layout) where
   pub extent_asked : {axis v e : ℕ} → ask ≡ Extent axis e → v ≡ get_or l.shape axis 0 → eqb v e ≡ asked ask l
   extent_asked e f = rw (e, f)
 
-pub ruleset asked_laws = (within_asked, rank_asked, dense_asked, sparse_asked, diagonal_asked, ones_asked, no_axes_asked, axes_asked, one_asked, common_asked, extent_asked)
+-- a sound record has one of the three kinds
+pub kind_few : (s : List ℤ) → sound s ≡ true → (layout_in s).kind ≤ 2
+kind_few s e = (layout_sound s e).form.kind_most
+
+pub ruleset asked_laws = (kind_few, within_asked, rank_asked, dense_asked, not_dense_asked, sparse_asked, not_sparse_asked, diagonal_asked, ones_asked, no_axes_asked, axes_asked, one_asked, common_asked, extent_asked)
 
 -- ---- the layouts at n places
 
@@ -135,23 +148,23 @@ module _ {n : ℕ} {records : List ℕ} {s : List ℤ} where
   pub dense_start : Inside n records s → DenseTo n 0 (layouts_at n records s)
   dense_start p = record { upto = omega arith; size = length_layouts p; eq = refl }
 
-  module _ {i k : ℕ} (p : Inside n records s) (q : DenseTo n i (layouts_at n records s)) (h : i < n)
-      (e : k ≡ (layout_in (take (length s - get_or records i 0) (drop (get_or records i 0) s))).kind) where
+  module _ {i : ℕ} {k : Kind} (p : Inside n records s) (q : DenseTo n i (layouts_at n records s)) (h : i < n)
+      (e : k ≡ kind_of (layout_in (take (length s - get_or records i 0) (drop (get_or records i 0) s))).kind) where
     -- the next one decides, and those behind it
     next : first_d (keep otherwise (layouts_at n records s)) ≡ first_d (keep otherwise (get_or (layouts_at n records s) i (layout_in []) ∷ drop (suc i) (layouts_at n records s)))
     next = q.eq ∙ ap (λ (l : List Layout). first_d (keep otherwise l)) (drop-cons (layouts_at n records s) i (layout_in []) (omega (arith, q.size)))
 
-    kind : (get_or (layouts_at n records s) i (layout_in [])).kind ≡ k
-    kind = sym (e ∙ ap (λ (l : Layout). l.kind) (layout_at_lem p h))
+    kind : k ≡ kind_of (get_or (layouts_at n records s) i (layout_in [])).kind
+    kind = e ∙ ap (λ (l : Layout). kind_of l.kind) (layout_at_lem p h)
 
-    pub dense_turn : k ≡ 0 → DenseTo n (i + 1) (layouts_at n records s)
+    pub dense_turn : k ≡ kinds.Dense → DenseTo n (i + 1) (layouts_at n records s)
     unfolding keep
-    dense_turn f = record { upto = omega arith; size = q.size; eq = rw add-one (rw (kind, f) at next) }
+    dense_turn f = record { upto = omega arith; size = q.size; eq = rw add-one (rw (dense_number kind f) at next) }
 
-    pub dense_stop : (k ≡ 0 → ⊥) → {d : ℕ} → d ≡ (layout_in (take (length s - get_or records i 0) (drop (get_or records i 0) s))).dense →
+    pub dense_stop : (k ≡ kinds.Dense → ⊥) → {d : ℕ} → d ≡ (layout_in (take (length s - get_or records i 0) (drop (get_or records i 0) s))).dense →
         d ≡ first_d (keep otherwise (layouts_at n records s))
     unfolding keep first_d
-    dense_stop f g = g ∙ ap (λ (l : Layout). l.dense) (layout_at_lem p h) ∙ sym (rw (kind, ne_eqb k 0 f) at next)
+    dense_stop f g = g ∙ ap (λ (l : Layout). l.dense) (layout_at_lem p h) ∙ sym (rw (ne_eqb _ 0 (not_dense kind f)) at next)
 
   pub dense_done : {i : ℕ} → Inside n records s → DenseTo n i (layouts_at n records s) → n ≤ i → 0 ≡ first_d (keep otherwise (layouts_at n records s))
   unfolding keep first_d

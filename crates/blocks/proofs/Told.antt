@@ -11,10 +11,12 @@ use lib.IntN.{ℤ, pos}
 use lib.ListN.{length, get_or, get_or-eq_default}
 use Rattle.rules.specs.Limits.{rank_limit, product_limit}
 use Rattle.rules.specs.Lists.{all}
-use Rattle.rules.specs.Layout.{rank, section, encode}
+use Rattle.rules.specs.declared.Kind.{Kind}
+use Rattle.rules.specs.Layout.{rank, section, encode, kind_of}
 use Rattle.rules.specs.Record.{natural, layout_in, sound, behind_record}
 use Rattle.rules.proofs.Extents.{extent_nonzero}
 use Rattle.rules.proofs.ReadBack.{layout_sound, record_and_rest}
+use Rattle.cells.specs.View.{view}
 use Rattle.tables.proofs.Passing.{Passed, none_passed, one_more, one_fails, all_passed}
 
 -- a number of a list that is in front
@@ -29,9 +31,17 @@ module _ (s : List ℤ) (e : sound s ≡ true) where
   front : (k : ℕ) → natural (get_or s k (pos 0)) ≡ natural (get_or (encode (layout_in s) ++ behind_record s) k (pos 0))
   front k = ap (λ (t : List ℤ). natural (get_or t k (pos 0))) (sym (record_and_rest s e))
 
-  pub kind_read : {n : ℕ} → n ≡ natural (get_or s 0 (pos 0)) → n ≡ (layout_in s).kind
-  unfolding encode natural
-  kind_read f = f ∙ front 0
+  -- its kind stands at the front
+  pub kind_inside : 0 < length s
+  unfolding encode
+  kind_inside = rw (← record_and_rest s e) (omega arith)
+
+  kind_first : get_or (view s) 0 0 ≡ (layout_in s).kind
+  unfolding encode view
+  kind_first = ap (λ (t : List ℤ). get_or (view t) 0 0) (sym (record_and_rest s e))
+
+  pub kind_read : {k : Kind} → k ≡ kind_of (get_or (view s) 0 0) → k ≡ kind_of (layout_in s).kind
+  kind_read f = f ∙ ap kind_of kind_first
 
   pub dense_read : {n : ℕ} → n ≡ natural (get_or s 1 (pos 0)) → n ≡ (layout_in s).dense
   unfolding encode natural
@@ -67,7 +77,7 @@ module _ (s : List ℤ) (e : sound s ≡ true) where
     pub extent_none : n ≤ axis → missing ≡ get_or (layout_in s).shape axis missing
     extent_none l = sym (get_or-eq_default (layout_in s).shape missing (omega arith))
 
-pub ruleset reading_laws = (kind_read, dense_read, dense_few, rank_read, rank_few, extent_read, extent_few, extent_none)
+pub ruleset reading_laws = (kind_inside, kind_read, dense_read, dense_few, rank_read, rank_few, extent_read, extent_few, extent_none)
 
 -- ---- every extent is 1
 

@@ -10,6 +10,8 @@ ghost use Rattle.blocks.specs.Blocks.{SoundAt};
 ghost use Rattle.blocks.specs.Asked.{asked, otherwise};
 
 use super::reading::{all_ones, dense_axes, extent, kind, rank};
+use lists::Places;
+use rules::Kind;
 
 // What is asked of a layout.
 #[derive(Clone, Copy)]
@@ -33,6 +35,7 @@ pub enum Ask {
 }
 
 // Whether the layout of the record at the front of a slice passes.
+#[tactic(auto, using(crate::proofs::Asks::asked_laws))]
 fn passes(ask: Ask, s: &[i32]) -> bool
     requires { sound s.now ≡ true }
     ensures { result ≡ asked ask (layout_in s.now) }
@@ -40,16 +43,16 @@ fn passes(ask: Ask, s: &[i32]) -> bool
     match ask {
         Ask::Within(r) => rank(s) <= r,
         Ask::OfRank(r) => rank(s) == r,
-        Ask::Dense => kind(s) == 0,
-        Ask::Sparse => kind(s) == 2,
+        Ask::Dense => matches!(kind(s), Kind::Dense),
+        Ask::Sparse => matches!(kind(s), Kind::Sparse),
         Ask::Diagonal => {
-            if kind(s) == 1 {
+            if matches!(kind(s), Kind::Diagonal) {
                 return true;
             }
             all_ones(s)
         }
         Ask::DenseAxes(d) => {
-            if kind(s) == 0 {
+            if matches!(kind(s), Kind::Dense) {
                 return true;
             }
             dense_axes(s) == d
@@ -65,13 +68,13 @@ fn passes(ask: Ask, s: &[i32]) -> bool
     }
 }
 
-// Whether the layouts of n records pass.
-pub fn all_pass(ask: Ask, s: &[i32], records: [usize; 16], n: usize) -> bool
-    requires { EachAt SoundAt n records s.now }
-    ensures { result ≡ all (asked ask) (layouts_at n records s.now) }
+// Whether the layouts of the records pass.
+pub fn all_pass(ask: Ask, s: &[i32], records: &Places) -> bool
+    requires { EachAt SoundAt records.now.count records.now.at s.now }
+    ensures { result ≡ all (asked ask) (layouts_at records.now.count records.now.at s.now) }
 {
-    for i in 0..n {
-        let at = records[i];
+    for i in 0..records.count {
+        let at = records.at[i];
         if !passes(ask, &s[at..]) {
             return false;
         }
@@ -79,14 +82,15 @@ pub fn all_pass(ask: Ask, s: &[i32], records: [usize; 16], n: usize) -> bool
     true
 }
 
-// The dense-axis count of the first of n layouts that is not dense, 0 if all are.
-pub fn first_d(s: &[i32], records: [usize; 16], n: usize) -> usize
-    requires { EachAt SoundAt n records s.now }
-    ensures { (result ≡ first_d (keep otherwise (layouts_at n records s.now))) × (result ≤ rank_limit) }
+// The dense-axis count of the first of the layouts that is not dense, 0 if all are.
+#[tactic(auto, using(crate::proofs::Asks::first_laws))]
+pub fn first_d(s: &[i32], records: &Places) -> usize
+    requires { EachAt SoundAt records.now.count records.now.at s.now }
+    ensures { (result ≡ first_d (keep otherwise (layouts_at records.now.count records.now.at s.now))) × (result ≤ rank_limit) }
 {
-    for i in 0..n {
-        let at = records[i];
-        if kind(&s[at..]) != 0 {
+    for i in 0..records.count {
+        let at = records.at[i];
+        if !matches!(kind(&s[at..]), Kind::Dense) {
             return dense_axes(&s[at..]);
         }
     }

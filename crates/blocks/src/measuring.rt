@@ -6,6 +6,7 @@ ghost use Rattle.blocks.specs.Blocks.{BlocksAt, block_with, blocks_by};
 ghost use Rattle.blocks.specs.Measured.{measure, added, folded, Measurable, measure_limit, fold_limit};
 
 use super::reading::extent;
+use lists::Places;
 
 // What is measured of a block.
 #[derive(Clone, Copy)]
@@ -50,21 +51,20 @@ fn added(how: Fold, total: usize, x: usize) -> usize
     }
 }
 
-// The sum or the largest of a measure of n blocks.
+// The sum or the largest of a measure of the blocks.
 pub fn measure_all(
     how: Fold,
     what: Measure,
     s: &[i32],
-    records: [usize; 16],
-    n: usize,
+    records: &Places,
     starts: [[usize; 4]; 16],
 ) -> usize
-    requires { BlocksAt n records starts s.now × Measurable what }
-    ensures { (result ≡ folded how (map (measure what) (blocks_by rank_limit n records starts s.now))) × (result ≤ fold_limit) }
+    requires { BlocksAt records.now.count records.now.at starts s.now × Measurable what }
+    ensures { (result ≡ folded how (map (measure what) (blocks_by rank_limit records.now.count records.now.at starts s.now))) × (result ≤ fold_limit) }
 {
     let mut total = 0;
-    for i in 0..n {
-        let at = records[i];
+    for i in 0..records.count {
+        let at = records.at[i];
         total = added(how, total, measured(what, starts[i], &s[at..]));
     }
     total

@@ -2,15 +2,18 @@
 ghost use Rattle.std.specs.Prelude.{◌≡◌, true, ◌≤◌, eqb, get_or};
 ghost use Rattle.rules.specs.Limits.{rank_limit, product_limit};
 ghost use Rattle.rules.specs.Lists.{all};
-ghost use Rattle.rules.specs.Layout.{rank};
+ghost use Rattle.rules.specs.Layout.{rank, kind_of};
 ghost use Rattle.rules.specs.Record.{layout_in, sound};
 
+use rules::Kind;
+
 // The kind of the record at the front of a slice.
-pub fn kind(s: &[i32]) -> usize
+#[tactic(auto, using(crate::proofs::Told::reading_laws))]
+pub fn kind(s: &[i32]) -> Kind
     requires { sound s.now ≡ true }
-    ensures { result ≡ (layout_in s.now).kind }
+    ensures { result ≡ kind_of (layout_in s.now).kind }
 {
-    shapes::natural_at(s, records::KIND)
+    records::kind_at(s, records::KIND)
 }
 
 // How many dense axes it has.

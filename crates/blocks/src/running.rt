@@ -7,6 +7,7 @@ ghost use Rattle.blocks.specs.Blocks.{BlocksAt, blocks_by};
 ghost use Rattle.blocks.specs.Lines.{number_on, place_on};
 
 use super::reading::extent;
+use lists::Places;
 
 // The lines that starts run along: the first axis, and the diagonal.
 #[derive(Clone, Copy)]
@@ -43,24 +44,23 @@ fn starts_on(line: Line, run: usize, start: [usize; 4], rank: usize) -> bool
     true
 }
 
-// Whether each of n blocks starts on a line, as far as the first extents before it come to.
+// Whether each of the blocks starts on a line, as far as the first extents before it come to.
 pub fn starts_run(
     line: Line,
     s: &[i32],
-    records: [usize; 16],
-    n: usize,
+    records: &Places,
     starts: [[usize; 4]; 16],
     rank: usize,
 ) -> bool
-    requires { BlocksAt n records starts s.now × (rank ≤ rank_limit) }
-    ensures { result ≡ start_at (place_on line rank) 0 (blocks_by rank n records starts s.now) }
+    requires { BlocksAt records.now.count records.now.at starts s.now × (rank ≤ rank_limit) }
+    ensures { result ≡ start_at (place_on line rank) 0 (blocks_by rank records.now.count records.now.at starts s.now) }
 {
     let mut run = 0;
-    for i in 0..n {
+    for i in 0..records.count {
         if !starts_on(line, run, starts[i], rank) {
             return false;
         }
-        let at = records[i];
+        let at = records.at[i];
         run += extent(&s[at..], 0, 1);
     }
     true

@@ -1,3 +1,4 @@
+pub mod Compared
 pub mod View
 pub mod Signed
 pub mod Buffers

@@ -1,5 +1,6 @@
 -- What a signed local says of the number that it holds. A local holds bits, and a need speaks of those bits, read back: of
 -- `held z` where the code has z.
+use Rattle.std.specs.Prelude.{None, Some}
 use mathlib.Core.Path.{◌≡◌, refl, sym, ap, ◌∙◌}
 use mathlib.Core.Bool.{true, false}
 use mathlib.Core.List.{List}
@@ -13,9 +14,9 @@ use mir.Syntax.{w32, w64}
 use mir.Val.{Fits, SFits, to_z, of_z}
 use mir.ValLaws.{to_z-of_z}
 use borrow.Author.Tests.{ltb-true, ltb-false, lt-ltb, le-ltb, eq-eqb, eqb-true}
-use Rattle.rules.specs.declared.Ordering.TheVariants.{Equal, Greater}
+use Rattle.std.specs.declared.cmp.Ordering.TheVariants.{Equal, Greater, Less}
+use Rattle.std.specs.Prelude.{◌≢◌}
 use Rattle.rules.proofs.Same.{one_test}
-use Rattle.cells.specs.declared.Sign.TheVariants.{Natural, Negative}
 use Rattle.cells.specs.View.{code, view, sign_of, cmp_numbers}
 use Rattle.cells.proofs.View.{view_get_or, code_one}
 
@@ -43,12 +44,12 @@ rest : (n : ℕ) → negsuc 0 -ℤ negsuc n ≡ pos n
 rest n = rw (le-ltb (suc n) 1 (omega arith)) (ap pos (omega arith))
 
 -- a natural number less another
-within : (r n : ℕ) → n ≤ r → Natural (r - n) ≡ sign_of (pos r -ℤ pos n)
+within : (r n : ℕ) → n ≤ r → Some (r - n) ≡ sign_of (pos r -ℤ pos n)
 unfolding sign_of
-within r zero h = ap Natural (omega arith)
+within r zero h = ap Some (omega arith)
 within r (suc n) h = rw (le-ltb r (suc n) h)
 
-short : (r n : ℕ) → r < n → Negative ≡ sign_of (pos r -ℤ pos n)
+short : (r n : ℕ) → r < n → None ≡ sign_of (pos r -ℤ pos n)
 unfolding sign_of
 short r zero h = absurd (omega arith)
 short r (suc n) h = rw (lt-ltb r (suc n) h)
@@ -76,14 +77,14 @@ module _ (z : ℤ) (h : mag z < 2 ^ 31) (e : lt_z (held z) (pos 0) ≡ true) whe
   pub negative_code : code z ≡ 2 ^ 31 + mag z
   negative_code = ap code is_negative
 
-  pub negative_sign : Negative ≡ sign_of z
+  pub negative_sign : None ≡ sign_of z
   unfolding sign_of
   negative_sign = sym (ap sign_of is_negative)
 
   -- less a negative number
-  pub less_negative : (r : ℕ) → Natural (r + 1 + nat_abs (held (negsuc 0 -ℤ held z))) ≡ sign_of (pos r -ℤ z)
+  pub less_negative : (r : ℕ) → Some (r + 1 + nat_abs (held (negsuc 0 -ℤ held z))) ≡ sign_of (pos r -ℤ z)
   unfolding sign_of
-  less_negative r = rw turned_is (ap Natural (omega arith) ∙ sym (ap (λ (y : ℤ). sign_of (pos r -ℤ y)) is_negative))
+  less_negative r = rw turned_is (ap Some (omega arith) ∙ sym (ap (λ (y : ℤ). sign_of (pos r -ℤ y)) is_negative))
 
 -- a local that is tested not to be
 module _ (z : ℤ) (h : mag z < 2 ^ 31) (e : lt_z (held z) (pos 0) ≡ false) where
@@ -102,15 +103,15 @@ module _ (z : ℤ) (h : mag z < 2 ^ 31) (e : lt_z (held z) (pos 0) ≡ false) wh
   pub natural_code : code z ≡ mag z
   natural_code = ap code is_natural
 
-  pub natural_sign : Natural (nat_abs (held z)) ≡ sign_of z
+  pub natural_sign : Some (nat_abs (held z)) ≡ sign_of z
   unfolding sign_of
   natural_sign = rw natural_is (sym (ap sign_of is_natural))
 
   -- less a natural number
-  pub less_natural : (r : ℕ) → nat_abs (held z) ≤ r → Natural (r - nat_abs (held z)) ≡ sign_of (pos r -ℤ z)
+  pub less_natural : (r : ℕ) → nat_abs (held z) ≤ r → Some (r - nat_abs (held z)) ≡ sign_of (pos r -ℤ z)
   less_natural r l = rw (natural_is, ap (λ (y : ℤ). sign_of (pos r -ℤ y)) is_natural) (within r (mag z) (rw natural_is at l))
 
-  pub less_short : (r : ℕ) → r < nat_abs (held z) → Negative ≡ sign_of (pos r -ℤ z)
+  pub less_short : (r : ℕ) → r < nat_abs (held z) → None ≡ sign_of (pos r -ℤ z)
   less_short r l = rw (ap (λ (y : ℤ). sign_of (pos r -ℤ y)) is_natural) (short r (mag z) (rw natural_is at l))
 
 pub ruleset signed = (turned_fits, turned_casts, negative_sign, less_negative, natural_casts, natural_sign, less_natural, less_short)
@@ -177,12 +178,20 @@ module _ (s t : List ℤ) (i j : ℕ) (h : mag (get_or s i (pos 0)) < 2 ^ 31) (k
   pub same_view : get_or (view s) i 0 ≡ get_or (view t) j 0 → of_z w32 (get_or s i (pos 0)) ≡ of_z w32 (get_or t j (pos 0))
   same_view e = eqb-true (of_z w32 (get_or s i (pos 0))) (of_z w32 (get_or t j (pos 0))) (view_equal ∙ eq-eqb (get_or (view s) i 0) (get_or (view t) j 0) e)
 
--- ---- how two natural numbers compare
+  -- a number compares with itself
+  pub cmp_equal : of_z w32 (get_or s i (pos 0)) ≡ of_z w32 (get_or t j (pos 0)) → Equal ≡ cmp_numbers (get_or (view s) i 0) (get_or (view t) j 0)
+  cmp_equal e =
+      let v : get_or (view s) i 0 ≡ get_or (view t) j 0 = view_same e in
+      rw (v, le-ltb (get_or (view t) j 0) (get_or (view t) j 0) (omega arith))
 
--- a number compares with itself
-pub same_order : (x y : ℕ) → x ≡ y → Equal ≡ cmp_numbers x y
-same_order x y e = rw (e, le-ltb y y (omega arith))
+  module _ (p : get_or (view s) i 0 < 2 ^ 31) (q : get_or (view t) j 0 < 2 ^ 31) where
+    pub cmp_less : lt_z (held (get_or s i (pos 0))) (held (get_or t j (pos 0))) ≡ true → Less ≡ cmp_numbers (get_or (view s) i 0) (get_or (view t) j 0)
+    cmp_less e = rw (← view_below p q, e)
 
--- a number that is neither the other one nor less is greater
-pub differ_order : (x y : ℕ) → (x ≡ y → ⊥) → ltb x y ≡ false → Greater ≡ cmp_numbers x y
-differ_order x y d e = rw (e, lt-ltb y x (omega (arith, ltb-false x y e)))
+    -- a number that is neither less nor the other one is greater
+    pub cmp_greater : lt_z (held (get_or s i (pos 0))) (held (get_or t j (pos 0))) ≡ false → (of_z w32 (get_or s i (pos 0)) ≡ of_z w32 (get_or t j (pos 0)) → ⊥) →
+        Greater ≡ cmp_numbers (get_or (view s) i 0) (get_or (view t) j 0)
+    cmp_greater e d =
+        let f : ltb (get_or (view s) i 0) (get_or (view t) j 0) ≡ false = sym (view_below p q) ∙ e in
+        let n : get_or (view s) i 0 ≢ get_or (view t) j 0 = λ v. d (same_view v) in
+        rw (f, lt-ltb (get_or (view t) j 0) (get_or (view s) i 0) (omega (arith, ltb-false (get_or (view s) i 0) (get_or (view t) j 0) f)))

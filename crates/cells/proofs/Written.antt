@@ -3,16 +3,16 @@ use mathlib.Core.Path.{◌≡◌, refl, sym, ap, ◌∙◌, subst}
 use mathlib.Core.List.{List, [], ◌∷◌, ◌++◌}
 use mathlib.Core.Logic.{◌⊎◌, inl, inr, ⊎_elim}
 use Prim.Native.Nat.{ℕ, suc, ◌+◌, ◌-◌, ◌<◌, ◌≤◌, ◌^◌}
-use native.Mathlib.Nat.{add-zero, zero-add, suc-add}
-use native.Mathlib.Numerals.{add-one}
+use native.Mathlib.Nat.{add-zero, suc-add}
 use native.Mathlib.Omega.{arith}
 use lib.IntN.{ℤ, pos}
-use lib.ListN.{length, get_or, set, take, drop, length-append, length-set, length-replicate}
-use lib.Seq.{take-suc, take_all, length-take-le}
+use lib.ListN.{length, get_or, set, take, drop, length-append, length-set}
 use lib.Signed.{mag}
-use Rattle.rules.specs.Buffers.{part, over, put, zeros}
+use mir.Syntax.{w32}
+use mir.Val.{SFits}
+use Rattle.rules.specs.Buffers.{part, put}
 use Rattle.cells.proofs.Signed.{held, back}
-use Rattle.rules.proofs.Buffers.{length_part, put_nil, put_front, put_more, zeros_more}
+use Rattle.rules.proofs.Buffers.{length_part, put_nil, put_more}
 use Rattle.cells.proofs.Buffers.{put_less, get_or_put_apart, part_more, part_less}
 
 -- now is old with new written into it from a on
@@ -41,48 +41,6 @@ before {a} {new} {old} w z = record {
   size = simp length-set w.size;
   is = rw w.is (put_less a new old z (omega arith));
 }
-
--- `copy`: the first i numbers of src are written
-pub record Copying (src old : List ℤ) (i : ℕ) (now : List ℤ) : Type 0 where
-  pub upto : i ≤ length src
-  pub room : length src ≤ length old
-  pub written : Written 0 (take i src) old now
-
-pub copy_start : {src old : List ℤ} → length src ≤ length old → Copying src old 0 old
-copy_start {src} {old} h = record { upto = omega arith; room = h; written = nothing 0 old (omega arith) }
-
-module _ {src old now : List ℤ} {i : ℕ} (c : Copying src old i now) where
-  pub copy_turn : i < length src → mag (get_or src i (pos 0)) < 2 ^ 31 → Copying src old (i + 1) (set now i (held (get_or src i (pos 0))))
-  copy_turn h m = record {
-    upto = omega arith;
-    room = c.room;
-    written =
-        rw (back (get_or src i (pos 0)) m, add-one, take-suc src i (pos 0))
-        (rw zero-add at (behind c.written i (get_or src i (pos 0)) (length-take-le i src (omega arith)) (omega arith)));
-  }
-
-  pub copy_done : length src ≤ i → now ≡ over src old
-  copy_done h = c.written.is ∙ rw (take_all i src h) (put_front src old)
-
--- `clear`: the first i numbers are zeros
-pub record Clearing (n : ℕ) (old : List ℤ) (i : ℕ) (now : List ℤ) : Type 0 where
-  pub upto : i ≤ n
-  pub room : n ≤ length old
-  pub written : Written 0 (zeros i) old now
-
-pub clear_start : {n : ℕ} {old : List ℤ} → n ≤ length old → Clearing n old 0 old
-clear_start {n} {old} h = record { upto = omega arith; room = h; written = nothing 0 old (omega arith) }
-
-module _ {n : ℕ} {old now : List ℤ} {i : ℕ} (c : Clearing n old i now) where
-  pub clear_turn : i < n → Clearing n old (i + 1) (set now i (pos 0))
-  clear_turn h = record {
-    upto = omega arith;
-    room = c.room;
-    written = rw (← zeros_more) (rw zero-add at (behind c.written i (pos 0) (length-replicate i (pos 0)) (omega arith)));
-  }
-
-  pub clear_done : n ≤ i → now ≡ over (zeros n) old
-  clear_done h = let e : i ≡ n = omega arith in c.written.is ∙ rw e (put_front (zeros n) old)
 
 -- `move_part`: the first i numbers of the part are written
 pub record Moving (from to n : ℕ) (old : List ℤ) (i : ℕ) (now : List ℤ) : Type 0 where
@@ -121,6 +79,33 @@ module _ {from to n : ℕ} {old now : List ℤ} {i : ℕ} (c : Moving from to n 
   pub move_done : n ≤ i → now ≡ put to (part from n old) old
   move_done h = let e : i ≡ n = omega arith in c.written.is ∙ rw e
 
+-- `move_row`: after each store one number more
+abbrev pub moved : ℕ → ℕ → ℕ → List ℤ → List ℤ
+moved from to i s = set s (to + i) (held (get_or s (from + i) (pos 0)))
+
+module _ {from to n : ℕ} {old : List ℤ} (begun : Moving from to n old 0 old) (first : SFits w32 (get_or old from (pos 0))) where
+  abbrev pub one_moved : List ℤ
+  one_moved = set old to (held (get_or old from (pos 0)))
+
+  pub move_one : 0 < n → Moving from to n old 1 one_moved
+  move_one h = move_first begun refl h first.sfits
+
+  module _ (second : SFits w32 (get_or one_moved (from + 1) (pos 0))) where
+    pub move_two : 1 < n → Moving from to n old 2 (moved from to 1 one_moved)
+    move_two h = move_turn (move_one (omega arith)) h second.sfits
+
+    module _ (third : SFits w32 (get_or (moved from to 1 one_moved) (from + 2) (pos 0))) where
+      pub move_three : 2 < n → Moving from to n old 3 (moved from to 2 (moved from to 1 one_moved))
+      move_three h = move_turn (move_two (omega arith)) h third.sfits
+
+      module _ (fourth : SFits w32 (get_or (moved from to 2 (moved from to 1 one_moved)) (from + 3) (pos 0))) where
+        pub move_four : 3 < n → Moving from to n old 4 (moved from to 3 (moved from to 2 (moved from to 1 one_moved)))
+        move_four h = move_turn (move_three (omega arith)) h fourth.sfits
+
+        pub move_five : SFits w32 (get_or (moved from to 3 (moved from to 2 (moved from to 1 one_moved))) (from + 4) (pos 0)) → 4 < n →
+            Moving from to n old 5 (moved from to 4 (moved from to 3 (moved from to 2 (moved from to 1 one_moved))))
+        move_five fifth h = move_turn (move_four (omega arith)) h fifth.sfits
+
 -- `copy_row`: the first i numbers of a part of another slice are written
 pub record Bringing (from to n : ℕ) (src old : List ℤ) (i : ℕ) (now : List ℤ) : Type 0 where
   pub upto : i ≤ n
@@ -149,6 +134,24 @@ module _ {from to n : ℕ} {src old now : List ℤ} {i : ℕ} (c : Bringing from
 
   pub bring_done : n ≤ i → now ≡ put to (part from n src) old
   bring_done h = let e : i ≡ n = omega arith in c.written.is ∙ rw e
+
+-- after each store one number more
+module _ {from to n : ℕ} {src old : List ℤ} (begun : Bringing from to n src old 0 old) (first : SFits w32 (get_or src from (pos 0))) where
+  abbrev pub one_brought : List ℤ
+  one_brought = set old to (held (get_or src from (pos 0)))
+
+  pub bring_one : 0 < n → Bringing from to n src old 1 one_brought
+  bring_one h = bring_first begun refl h first.sfits
+
+  module _ (second : SFits w32 (get_or src (from + 1) (pos 0))) where
+    abbrev pub two_brought : List ℤ
+    two_brought = set one_brought (to + 1) (held (get_or src (from + 1) (pos 0)))
+
+    pub bring_two : 1 < n → Bringing from to n src old 2 two_brought
+    bring_two h = bring_turn (bring_one (omega arith)) h second.sfits
+
+    pub bring_three : SFits w32 (get_or src (from + 2) (pos 0)) → 2 < n → Bringing from to n src old 3 (set two_brought (to + 2) (held (get_or src (from + 2) (pos 0))))
+    bring_three third h = bring_turn (bring_two (omega arith)) h third.sfits
 
 -- a part that is lent was written
 pub bring_lent : (from to n : ℕ) (src old : List ℤ) {now : List ℤ} → now ≡ put to (take (from + n - from) (drop from src)) old → now ≡ put to (part from n src) old
@@ -193,4 +196,4 @@ module _ {a e w : ℕ} {old now : List ℤ} {k : ℕ} (c : Shifting a e w old k 
   pub shift_done : k ≤ a → now ≡ put (a + w) (part a (e - a) old) old
   shift_done h = let here : k ≡ a = omega arith in c.written.is ∙ rw here
 
-pub ruleset laws = (copy_start, copy_turn, copy_done, clear_start, clear_turn, clear_done, move_start, move_turn, move_done, shift_start, shift_turn, shift_done)
+pub ruleset laws = (move_start, move_turn, shift_start, shift_turn)

@@ -1,10 +1,9 @@
 -- A slice of signed numbers as natural numbers, and one such number as what a reader asks of it.
+use Rattle.std.specs.Prelude.{None, Option, Some}
 use Rattle.std.specs.Prelude.{List, [], ◌∷◌, ℕ, ◌+◌, ◌<◌, ◌^◌, ltb, ℤ, pos, negsuc, get_or}
 use Rattle.rules.specs.RowsInOrder.{by_first}
-use Rattle.rules.specs.declared.Ordering.{Ordering}
-use Rattle.rules.specs.declared.Ordering.TheVariants.{Equal}
-use Rattle.cells.specs.declared.Sign.{Sign}
-use Rattle.cells.specs.declared.Sign.TheVariants.{Natural, Negative}
+use Rattle.std.specs.declared.cmp.Ordering.{Ordering}
+use Rattle.std.specs.declared.cmp.Ordering.TheVariants.{Equal}
 
 -- n for n, and 2 ^ 31 + n for -(n + 1): no two 32-bit numbers have one code, and a negative one's is above every natural one's
 abbrev pub code : ℤ → ℕ
@@ -21,14 +20,14 @@ abbrev pub Low : List ℕ → Type 0
 Low l = (k : ℕ) → get_or l k 0 < 2 ^ 31
 
 -- a natural number, or a negative one
-unfoldable pub sign_of : ℤ → Sign
-sign_of (pos n) = Natural n
-sign_of (negsuc n) = Negative
+unfoldable pub sign_of : ℤ → Option ℕ
+sign_of (pos n) = Some n
+sign_of (negsuc n) = None
 
 -- the natural number, 0 for a negative one
-abbrev pub size_of : Sign → ℕ
-size_of (Natural n) = n
-size_of Negative = 0
+abbrev pub size_of : Option ℕ → ℕ
+size_of (Some n) = n
+size_of None = 0
 
 -- how two numbers compare
 abbrev pub cmp_numbers : ℕ → ℕ → Ordering

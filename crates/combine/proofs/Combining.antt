@@ -1,4 +1,5 @@
 -- How a step in the window ends, by whatever rule: refused, or with a layout in the target. Assumes nothing.
+use Rattle.std.specs.Prelude.{Err}
 use mathlib.Core.Path.{◌≡◌, refl, sym, ap, ◌∙◌}
 use mathlib.Core.Bool.{Bool, true, false}
 use mathlib.Core.List.{List, []}
@@ -6,7 +7,6 @@ use Prim.Native.Nat.{ℕ, ◌≤◌}
 use native.Mathlib.Omega.{arith}
 use lib.IntN.{ℤ}
 use lib.ListN.{length}
-use Rattle.rules.specs.declared.Step.TheVariants.{Refused}
 use Rattle.rules.specs.declared.Refusal.{Refusal}
 use Rattle.rules.specs.declared.Refusal.TheVariants.{MadeTooLarge}
 use Rattle.rules.specs.Lists.{if, same}
@@ -26,10 +26,6 @@ use Rattle.combine.specs.declared.window.Way.TheVariants.{Diagonals}
 use Rattle.combine.specs.Window.{BareAsked, made_step, Made, Combined, merged_states, merged_inputs, shaped}
 use Rattle.combine.proofs.Ways.{Told, diagonal_first}
 
--- a layout that is too large
-pub too_large : {few : Bool} → few ≡ false → Refused MadeTooLarge ≡ made_step few
-too_large e = rw e
-
 -- a rule that makes a sound layout of two sound ones, with low dependencies of low ones
 pub record Makes (rule : Layout → Layout → Verdict Layout) : Type 0 where
   pub sound : (a b : Layout) {l : Layout} → rule a b ≡ given l → Sound l
@@ -37,7 +33,7 @@ pub record Makes (rule : Layout → Layout → Verdict Layout) : Type 0 where
 
 module _ {rule : Layout → Layout → Verdict Layout} {s : List ℤ} (q : Window s) where
   -- nothing is written
-  pub combine_refused : (r : Refusal) → rule (layout_at left s) (layout_at right s) ≡ refused (number_of r) → Combined rule s s (Refused r)
+  pub combine_refused : (r : Refusal) → rule (layout_at left s) (layout_at right s) ≡ refused (number_of r) → Combined rule s s (Err r)
   combine_refused r e = record { says = says_refused r target s e; only = only_same target window_size s }
 
   -- a layout was made, or a list of it or on the way to it is too long

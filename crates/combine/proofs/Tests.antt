@@ -10,9 +10,12 @@ use lib.IntN.{ℤ}
 use lib.ListN.{length, get_or, drop}
 use Rattle.rules.specs.Lists.{same, product}
 use Rattle.rules.specs.Buffers.{part}
-use Rattle.rules.specs.Layout.{rank, is_dense}
+use Rattle.rules.specs.declared.Kind.{Kind}
+use Rattle.rules.specs.declared.Kind.TheVariants.{Dense, Diagonal}
+use Rattle.rules.specs.Layout.{rank, is_dense, kind_of}
 use Rattle.rules.specs.Removal.{lists_row}
 use Rattle.rules.specs.Pairs.{alike_diagonals, lower_d, bars_expansion}
+use Rattle.rules.proofs.KindRead.{dense_number, diagonal_number, not_dense, not_diagonal}
 use Rattle.rules.proofs.Same.{lengths_differ}
 use Rattle.rules.proofs.Listed.{lists_between, lists_zero, lists_same}
 use Rattle.cells.specs.View.{view}
@@ -44,33 +47,38 @@ module _ {s : List ℤ} (h : Window s) where
 -- ---- kinds
 
 module _ {at : ℕ} {s : List ℤ} (h : Holds at s) where
-  pub dense_tell : {k : ℕ} → k ≡ kind_at at s → eqb k 0 ≡ is_dense (layout_at at s)
-  unfolding layout_at
-  dense_tell e = rw e
+  module _ {k : Kind} (e : k ≡ kind_of (kind_at at s)) where
+    pub dense_told : k ≡ Dense → true ≡ is_dense (layout_at at s)
+    unfolding layout_at
+    dense_told z = rw (dense_number e z)
 
-  -- no diagonal
-  pub bars_other : {k : ℕ} → k ≡ kind_at at s → (k ≡ 1 → ⊥) → false ≡ bars_expansion (layout_at at s)
-  unfolding layout_at
-  bars_other e n = rw (← e, ne_eqb _ 1 n)
+    pub other_told : (k ≡ Dense → ⊥) → false ≡ is_dense (layout_at at s)
+    unfolding layout_at
+    other_told n = rw (ne_eqb _ 0 (not_dense e n))
 
-  -- a diagonal with dense axes or without
-  pub bars_diagonal : {k d : ℕ} → k ≡ kind_at at s → k ≡ 1 → d ≡ dense_at at s → ltb 0 d ≡ bars_expansion (layout_at at s)
-  unfolding layout_at
-  bars_diagonal e o f = rw (← e, o, ← f)
+    -- no diagonal
+    pub bars_other : (k ≡ Diagonal → ⊥) → false ≡ bars_expansion (layout_at at s)
+    unfolding layout_at
+    bars_other n = rw (ne_eqb _ 1 (not_diagonal e n))
+
+    -- a diagonal with dense axes or without
+    pub bars_diagonal : {d : ℕ} → k ≡ Diagonal → d ≡ dense_at at s → ltb 0 d ≡ bars_expansion (layout_at at s)
+    unfolding layout_at
+    bars_diagonal o f = rw (diagonal_number e o, ← f)
 
 module _ {s : List ℤ} (both : Window s) where
-  pub alike_not_first : {k : ℕ} → k ≡ kind_at left s → (k ≡ 1 → ⊥) → false ≡ alike_diagonals (layout_at left s) (layout_at right s)
+  pub alike_not_first : {k : Kind} → k ≡ kind_of (kind_at left s) → (k ≡ Diagonal → ⊥) → false ≡ alike_diagonals (layout_at left s) (layout_at right s)
   unfolding layout_at
-  alike_not_first e n = rw (← e, ne_eqb _ 1 n)
+  alike_not_first e n = rw (ne_eqb _ 1 (not_diagonal e n))
 
-  pub alike_not_second : {k l : ℕ} → k ≡ kind_at left s → k ≡ 1 → l ≡ kind_at right s → (l ≡ 1 → ⊥) → false ≡ alike_diagonals (layout_at left s) (layout_at right s)
+  pub alike_not_second : {k l : Kind} → k ≡ kind_of (kind_at left s) → k ≡ Diagonal → l ≡ kind_of (kind_at right s) → (l ≡ Diagonal → ⊥) → false ≡ alike_diagonals (layout_at left s) (layout_at right s)
   unfolding layout_at
-  alike_not_second e o f n = rw (← e, o, ← f, ne_eqb _ 1 n)
+  alike_not_second e o f n = rw (diagonal_number e o, ne_eqb _ 1 (not_diagonal f n))
 
-  pub alike_both : {k l : ℕ} {r : Bool} → k ≡ kind_at left s → k ≡ 1 → l ≡ kind_at right s → l ≡ 1 → r ≡ eqb (dense_at left s) (dense_at right s) →
+  pub alike_both : {k l : Kind} {r : Bool} → k ≡ kind_of (kind_at left s) → k ≡ Diagonal → l ≡ kind_of (kind_at right s) → l ≡ Diagonal → r ≡ eqb (dense_at left s) (dense_at right s) →
       r ≡ alike_diagonals (layout_at left s) (layout_at right s)
   unfolding layout_at
-  alike_both e o f p t = rw (← e, o, ← f, p) t
+  alike_both e o f p t = rw (diagonal_number e o, diagonal_number f p) t
 
   -- ---- dense axes
 
@@ -115,6 +123,6 @@ module _ (d : ℕ) {at : ℕ} {s : List ℤ} (k : Holds at s) where
         unfolding layout_at
         lists_some z p = rw (tell, rank_is k, ← r, lt-ltb 0 count (omega arith), p)
 
-pub ruleset laws = (ranks_differ, ranks_agree, extents_inside, shapes_tell, dense_tell, bars_other, bars_diagonal, alike_not_first, alike_not_second, alike_both, lower_first, lower_second)
+pub ruleset laws = (ranks_differ, ranks_agree, extents_inside, shapes_tell, dense_told, other_told, bars_other, bars_diagonal, alike_not_first, alike_not_second, alike_both, lower_first, lower_second)
 
 pub ruleset lists_laws = (lists_at_zero, lists_at_same, lists_no_rows, removed_axes, lists_some)

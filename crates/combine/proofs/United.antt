@@ -1,11 +1,11 @@
 -- `union_in` and `unite_rows`: the union by its way. Assumes nothing.
+use Rattle.std.specs.Prelude.{Err, Result, ⊤}
+use Rattle.rules.specs.declared.Refusal.{Refusal}
 use mathlib.Core.Path.{◌≡◌, refl, sym, ◌∙◌}
 use mathlib.Core.Bool.{Bool, true, false, ◌||◌}
 use mathlib.Core.List.{List, []}
 use Prim.Native.Nat.{ℕ}
 use lib.IntN.{ℤ}
-use Rattle.rules.specs.declared.Step.{Step}
-use Rattle.rules.specs.declared.Step.TheVariants.{Refused}
 use Rattle.rules.specs.declared.Refusal.TheVariants.{ShapesDisagree, DenseAxes, MadeUnsound}
 use Rattle.rules.specs.Lists.{same}
 use Rattle.rules.specs.Refusals.{refused, number_of}
@@ -61,11 +61,11 @@ module _ {s : List ℤ} (q : RowsAsked s) where
   rows_told = way_told a b (sym q.way) refl
 
   module _ {bars : Bool} (bars-is : bars ≡ (bars_expansion a || bars_expansion b)) where
-    pub barred : bars ≡ true → Combined union s s (Refused DenseAxes)
+    pub barred : bars ≡ true → Combined union s s (Err DenseAxes)
     barred f = combine_refused q.window DenseAxes (unfold number_of in united_barred q.window.first.sound q.window.second.sound q.shapes rows_told (sym bars-is ∙ f))
 
     module _ (bars-not : bars ≡ false) {d : ℕ} (d-is : d ≡ lower_d a b) {lists : Bool} (lists-is : lists ≡ (lists_row a d || lists_row b d)) where
-      pub listing : lists ≡ true → Combined union s s (Refused MadeUnsound)
+      pub listing : lists ≡ true → Combined union s s (Err MadeUnsound)
       listing f =
           combine_refused q.window MadeUnsound
           (unfold number_of in united_listing q.window.first.sound q.window.second.sound q.shapes rows_told (sym bars-is ∙ bars-not) (rw (← d-is) (sym lists-is ∙ f)))
@@ -74,7 +74,7 @@ module _ {s : List ℤ} (q : RowsAsked s) where
         pub ask_join : BothAsked d s
         ask_join = record { asked = q; lower = d-is; expand = sym bars-is ∙ bars-not; list_none = sym lists-is ∙ lists-not }
 
-        pub rows_made : {t : List ℤ} {few : Bool} {step : Step} → Made (united_rows a b) s t few → step ≡ made_step few → Combined union s t step
+        pub rows_made : {t : List ℤ} {few : Bool} {step : (Result ⊤ Refusal)} → Made (united_rows a b) s t few → step ≡ made_step few → Combined union s t step
         rows_made m p =
             rw p
             (combine_made q.window makes_union
@@ -89,21 +89,21 @@ module _ {s : List ℤ} (q : Window s) where
   abbrev y : Layout
   y = layout_at right s
 
-  pub shapes_stop : {r : Bool} → r ≡ same x.shape y.shape → r ≡ false → Combined union s s (Refused ShapesDisagree)
+  pub shapes_stop : {r : Bool} → r ≡ same x.shape y.shape → r ≡ false → Combined union s s (Err ShapesDisagree)
   shapes_stop e f = combine_refused q ShapesDisagree (unfold number_of in union_shapes x y (sym e ∙ f))
 
   module _ {r : Bool} (r-is : r ≡ same x.shape y.shape) (agree : r ≡ true) {w : Way} (w-is : w ≡ way_of x y) where
     shapes : same x.shape y.shape ≡ true
     shapes = shapes_same q r-is agree
 
-    pub dense_made : {n : ℕ} {t : List ℤ} {few : Bool} {step : Step} → w ≡ Dense → n ≡ rank_at left s →
+    pub dense_made : {n : ℕ} {t : List ℤ} {few : Bool} {step : (Result ⊤ Refusal)} → w ≡ Dense → n ≡ rank_at left s →
         Made (shaped 0 n [] (merged_states s) (merged_inputs s) x) s t few → step ≡ made_step few → Combined union s t step
     unfolding to_dense
     dense_made {n} e k m p =
         let is : shaped 0 n [] (merged_states s) (merged_inputs s) x ≡ with_merged x y (to_dense x) = rw (k, ← rank_is q.first) in
         rw p (combine_made q makes_union (united_dense q.first.sound q.second.sound shapes (way_told x y w-is e)) (rw is at m))
 
-    pub diagonals_made : {d : ℕ} {t : List ℤ} {few : Bool} {step : Step} → w ≡ Diagonals → d ≡ dense_at left s →
+    pub diagonals_made : {d : ℕ} {t : List ℤ} {few : Bool} {step : (Result ⊤ Refusal)} → w ≡ Diagonals → d ≡ dense_at left s →
         Made (shaped 1 d [] (merged_states s) (merged_inputs s) x) s t few → step ≡ made_step few → Combined union s t step
     diagonals_made e k m p =
         let told = way_told x y w-is e in

@@ -36,16 +36,6 @@ module _ (a b : Layout) {p : Bool} (p-is : p ≡ is_dense a) where
 
 pub ruleset laws = (first_dense, second_dense, diagonals, by_rows_lem)
 
--- one of two tests holds, as they are told one after the other
-module _ (a b : Bool) {p : Bool} (p-is : p ≡ a) where
-  pub either_by_first : p ≡ true → true ≡ a || b
-  either_by_first e = rw (← p-is, e)
-
-  pub either_by_second : p ≡ false → {q : Bool} → q ≡ b → q ≡ a || b
-  either_by_second e q-is = rw (← p-is, e) q-is
-
-pub ruleset either_laws = (either_by_first, either_by_second)
-
 -- ---- what a way tells
 
 -- the tests that lead there

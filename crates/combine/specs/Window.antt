@@ -1,7 +1,7 @@
 -- Two layouts in a window of parts: which way they are taken, and what is made of them in the target, by whatever rule.
+use Rattle.std.specs.Prelude.{Err, Ok, Result, ⊤}
+use Rattle.rules.specs.declared.Refusal.{Refusal}
 use Rattle.std.specs.Prelude.{◌≡◌, Bool, true, false, ◌&&◌, ◌||◌, List, ℕ, ◌+◌, ◌-◌, ◌≤◌, ℤ, get_or}
-use Rattle.rules.specs.declared.Step.{Step}
-use Rattle.rules.specs.declared.Step.TheVariants.{Done, Refused}
 use Rattle.rules.specs.declared.Refusal.TheVariants.{MadeTooLarge}
 use Rattle.rules.specs.Limits.{entry_limit}
 use Rattle.rules.specs.Lists.{if, same}
@@ -118,10 +118,10 @@ pub record Made (l : Layout) (s t : List ℤ) (r : Bool) : Type 0 where
   pub only : Only target window_size s t
 
 -- the answer of a step that made a layout, or found it too large
-abbrev pub made_step : Bool → Step
-made_step few = if few Done (Refused MadeTooLarge)
+abbrev pub made_step : Bool → Result ⊤ Refusal
+made_step few = if few (Ok tt) (Err MadeTooLarge)
 
 -- what a step says of the target is what a rule gives for the left and the right layout
-pub record Combined (rule : Layout → Layout → Verdict Layout) (s t : List ℤ) (r : Step) : Type 0 where
+pub record Combined (rule : Layout → Layout → Verdict Layout) (s t : List ℤ) (r : Result ⊤ Refusal) : Type 0 where
   pub says : Says (rule (layout_at left s) (layout_at right s)) target t r
   pub only : Only target window_size s t

@@ -9,7 +9,7 @@ use super::window::{
     LEFT_DENSE, LEFT_RANK, OTHER_SPARE_ROWS, SPARE_ROWS, TARGET_ROWS, Way, complete, complete_bare,
     either_bars, either_lists, lower_both, lower_dense, made, same_shapes, way_of,
 };
-use rules::{Refusal, Step};
+use rules::Refusal;
 
 // The rows of both layouts, with D lowered to d, are joined in the target; false where they are too many.
 fn join_rows(window: &mut [i32], d: usize, rising: bool) -> bool
@@ -37,29 +37,29 @@ fn join_layouts(window: &mut [i32], d: usize, rising: bool) -> bool
 }
 
 // The union of both layouts by their rows: 11 where a diagonal has dense axes, 12 where a row would be listed while dense axes are left.
-fn unite_rows(window: &mut [i32], rising: bool) -> Step
+fn unite_rows(window: &mut [i32], rising: bool) -> Result<(), Refusal>
     requires rows_asked { RowsAsked window.old }
     requires rising { rising ≡ true → Rising window.old }
     ensures { Combined union window.old window.new result }
 {
     if either_bars(window) {
-        return Step::Refused(Refusal::DenseAxes);
+        return Err(Refusal::DenseAxes);
     }
     let d = lower_dense(window);
     if either_lists(window, d) {
-        return Step::Refused(Refusal::MadeUnsound);
+        return Err(Refusal::MadeUnsound);
     }
     made(join_layouts(window, d, rising))
 }
 
 // The union of the left and the right layout goes to the target. Whether the rows of both are known to increase is told.
-pub fn union_in(window: &mut [i32], rising: bool) -> Step
+pub fn union_in(window: &mut [i32], rising: bool) -> Result<(), Refusal>
     requires window { Window window.old }
     requires rising { rising ≡ true → Rising window.old }
     ensures { Combined union window.old window.new result }
 {
     if !same_shapes(window) {
-        return Step::Refused(Refusal::ShapesDisagree);
+        return Err(Refusal::ShapesDisagree);
     }
     match way_of(window) {
         Way::Dense => {

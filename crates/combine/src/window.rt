@@ -8,7 +8,7 @@ ghost use Rattle.parts.specs.Parts.{left, right, layout_at, Holds, Window};
 ghost use Rattle.combine.specs.Window.{way_of, HeadAsked, DepsAsked, BareAsked, CompleteAsked, HeadMade, DepsMade, merged_states, merged_inputs, shaped, Completed, Made, made_step, BothAsked, Rising, BothLowered};
 
 use parts::{DENSE, EXTENTS, INPUTS, LEFT, OTHER_SPARE, RANK, RIGHT, ROWS, SPARE, STATES, TARGET};
-use rules::{Refusal, Step};
+use rules::{Kind, Refusal};
 
 // Where the sections of the parts stand in the window.
 pub const LEFT_DENSE: usize = LEFT + DENSE;
@@ -58,65 +58,58 @@ pub enum Way {
 }
 
 // Whether both layouts have one shape.
+#[tactic(auto, using(crate::proofs::Tests::laws), unfolding(parts::specs::Parts::layout_at))]
 pub fn same_shapes(window: &[i32]) -> bool
     requires { Window window.now }
     ensures { result ≡ same (layout_at left window.now).shape (layout_at right window.now).shape }
 {
-    if cells::same(window, LEFT_RANK, window, RIGHT_RANK) {
-        let rank = cells::get(window, LEFT_RANK);
-        return tables::same_numbers(window, LEFT_EXTENTS, window, RIGHT_EXTENTS, rank);
-    }
-    false
+    let rank = cells::get(window, LEFT_RANK);
+    cells::same(window, LEFT_RANK, window, RIGHT_RANK)
+        && tables::same_numbers(window, LEFT_EXTENTS, window, RIGHT_EXTENTS, rank)
 }
 
 // Whether the layout at a place is dense.
+#[tactic(auto, using(crate::proofs::Tests::laws))]
 pub fn is_dense(s: &[i32], at: usize) -> bool
     requires { Holds at s.now }
     ensures { result ≡ is_dense (layout_at at s.now) }
 {
-    cells::get(s, at) == 0
+    matches!(records::kind_at(s, at), Kind::Dense)
 }
 
 // Whether both layouts are diagonals with equal D.
+#[tactic(auto, using(crate::proofs::Tests::laws))]
 pub fn alike_diagonals(window: &[i32]) -> bool
     requires { Window window.now }
     ensures { result ≡ alike_diagonals (layout_at left window.now) (layout_at right window.now) }
 {
-    if cells::get(window, LEFT) != 1 {
-        return false;
-    }
-    if cells::get(window, RIGHT) != 1 {
-        return false;
-    }
-    cells::same(window, LEFT_DENSE, window, RIGHT_DENSE)
+    matches!(records::kind_at(window, LEFT), Kind::Diagonal)
+        && matches!(records::kind_at(window, RIGHT), Kind::Diagonal)
+        && cells::same(window, LEFT_DENSE, window, RIGHT_DENSE)
 }
 
 // Which way both layouts are taken.
+#[tactic(auto, using(crate::proofs::Ways::laws))]
 pub fn way_of(window: &[i32]) -> Way
     requires { Window window.now }
     ensures { result ≡ way_of (layout_at left window.now) (layout_at right window.now) }
 {
-    if is_dense(window, LEFT) {
-        return Way::Dense;
+    if is_dense(window, LEFT) || is_dense(window, RIGHT) {
+        Way::Dense
+    } else if alike_diagonals(window) {
+        Way::Diagonals
+    } else {
+        Way::Rows
     }
-    if is_dense(window, RIGHT) {
-        return Way::Dense;
-    }
-    if alike_diagonals(window) {
-        return Way::Diagonals;
-    }
-    Way::Rows
 }
 
 // Whether the layout at a place is a diagonal with dense axes, which does not expand.
+#[tactic(auto, using(crate::proofs::Tests::laws))]
 pub fn bars_expansion(s: &[i32], at: usize) -> bool
     requires { Holds at s.now }
     ensures { result ≡ bars_expansion (layout_at at s.now) }
 {
-    if cells::get(s, at) != 1 {
-        return false;
-    }
-    0 < cells::get(s, at + DENSE)
+    matches!(records::kind_at(s, at), Kind::Diagonal) && 0 < cells::get(s, at + DENSE)
 }
 
 // Whether one of both layouts is such a diagonal.
@@ -124,23 +117,16 @@ pub fn either_bars(window: &[i32]) -> bool
     requires { Window window.now }
     ensures { result ≡ (bars_expansion (layout_at left window.now) || bars_expansion (layout_at right window.now)) }
 {
-    if bars_expansion(window, LEFT) {
-        return true;
-    }
-    bars_expansion(window, RIGHT)
+    bars_expansion(window, LEFT) || bars_expansion(window, RIGHT)
 }
 
 // The smaller D of both layouts.
+#[tactic(auto, unfolding(parts::specs::Parts::layout_at))]
 pub fn lower_dense(window: &[i32]) -> usize
     requires { Window window.now }
     ensures { result ≡ lower_d (layout_at left window.now) (layout_at right window.now) }
 {
-    let d = cells::get(window, LEFT_DENSE);
-    let e = cells::get(window, RIGHT_DENSE);
-    if d < e {
-        return d;
-    }
-    e
+    cells::get(window, LEFT_DENSE).min(cells::get(window, RIGHT_DENSE))
 }
 
 // Whether the layout at a place lists a row with its D lowered to d, while d is above 0.
@@ -167,10 +153,7 @@ pub fn either_lists(window: &[i32], d: usize) -> bool
     requires { Window window.now }
     ensures { result ≡ (lists_row (layout_at left window.now) d || lists_row (layout_at right window.now) d) }
 {
-    if lists_row(window, LEFT, d) {
-        return true;
-    }
-    lists_row(window, RIGHT, d)
+    lists_row(window, LEFT, d) || lists_row(window, RIGHT, d)
 }
 
 // The rows of both layouts, with D lowered to d and in order, become tables in the spare room; false where one has too many. Whether those
@@ -228,11 +211,11 @@ pub fn complete_bare(window: &mut [i32], kind: usize, dense: usize) -> bool
 }
 
 // The answer of a step that made a layout, or found that it has too many rows or dependencies.
-pub fn made(few: bool) -> Step
+pub fn made(few: bool) -> Result<(), Refusal>
     ensures { result ≡ made_step few }
 {
     if few {
-        return Step::Done;
+        return Ok(());
     }
-    Step::Refused(Refusal::MadeTooLarge)
+    Err(Refusal::MadeTooLarge)
 }

@@ -1,11 +1,11 @@
 -- The entries of all blocks in one table: `merge_blocks`. Assumes nothing.
 use mathlib.Core.Path.{◌≡◌, refl, sym, ap, ◌∙◌}
-use mathlib.Core.Bool.{Bool, true, false, not, ◌&&◌}
+use mathlib.Core.Bool.{Bool, true, false, ◌&&◌}
 use mathlib.Core.List.{List, [], ◌∷◌, ◌++◌, append-nil}
 use Prim.Native.Nat.{ℕ, ◌+◌, ◌-◌, ◌<◌, ◌≤◌}
 use native.Mathlib.Numerals.{add-one}
 use native.Mathlib.Omega.{arith}
-use borrow.Author.Tests.{not-true, not-false, leb-false, lt-leb, le-leb}
+use borrow.Author.Tests.{leb-false, lt-leb, le-leb}
 use lib.IntN.{ℤ, pos}
 use lib.ListN.{length, get_or, set, take, drop, length-map, take-append-drop}
 use lib.Seq.{take-suc, take_all}
@@ -125,9 +125,9 @@ module _ {x : Listed} {r w n : ℕ} {places : List ℕ} {starts : List (List ℕ
         small_more : all (small_to (axes_in x r w)) (gather (entries_of x r) (take (i + 1) the_blocks)) ≡ all (small_to (axes_in x r w)) (entries_of x r here)
         small_more = rw (more, all_append (small_to (axes_in x r w)) (gather (entries_of x r) (take i the_blocks)) (entries_of x r here), g.small)
 
-        pub join_turn : not v ≡ false → Joining x r w n places starts src at (i + 1) s u
+        pub join_turn : v ≡ true → Joining x r w n places starts src at (i + 1) s u
         join_turn e =
-            let yes = not-false v e in
+            let yes = e in
             record {
               asked = g.asked;
               upto = omega arith;
@@ -138,7 +138,7 @@ module _ {x : Listed} {r w n : ℕ} {places : List ℕ} {starts : List (List ℕ
             }
 
         -- one block is not small, or makes too many
-        pub join_stop : not v ≡ true → Tabled at w (axes_in x r w) window_size (joined x r the_blocks) s u false
+        pub join_stop : v ≡ false → Tabled at w (axes_in x r w) window_size (joined x r the_blocks) s u false
         join_stop e = record {
           verdict = fails (all (small_to (axes_in x r w)) (gather (entries_of x r) (take (i + 1) the_blocks))) refl;
           table = λ z. absurd (true_not_false z refl);
@@ -156,7 +156,7 @@ module _ {x : Listed} {r w n : ℕ} {places : List ℕ} {starts : List (List ℕ
             whole = gather_rest (entries_of x r) the_blocks i (block_of (block_at r [])) (rw blocks_length h)
 
             told : all (small_to (axes_in x r w)) first && few (sorted first) ≡ false
-            told = rw (small_more, ← both) (sym m.verdict ∙ not-true v e)
+            told = rw (small_more, ← both) (sym m.verdict ∙ e)
 
             fails : (a : Bool) → all (small_to (axes_in x r w)) first ≡ a → false ≡ all (small_to (axes_in x r w)) (joined x r the_blocks) && few (sorted (joined x r the_blocks))
             fails true f =

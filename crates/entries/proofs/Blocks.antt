@@ -1,6 +1,7 @@
 -- What one block gives: its start, its record and its entries. Assumes nothing.
+use Rattle.std.specs.Prelude.{None, Option, Some}
 use mathlib.Core.Path.{◌≡◌, refl, sym, ap, ◌∙◌}
-use mathlib.Core.Bool.{Bool, true, false, not}
+use mathlib.Core.Bool.{Bool, true, false}
 use mathlib.Core.List.{List, [], ◌∷◌, ◌++◌, map}
 use Prim.Native.Nat.{ℕ, ◌+◌, ◌-◌, ◌≤◌}
 use native.Mathlib.Numerals.{add-one}
@@ -11,8 +12,6 @@ use lib.IntN.{ℤ}
 use lib.ListN.{length, take, drop, length-map, drop_of_length-le}
 use lib.Seq.{get_or-take, length-take-le, ext_get_or}
 use Rattle.rules.specs.declared.Head.{Head}
-use Rattle.rules.specs.declared.Walk.{Walk}
-use Rattle.rules.specs.declared.Walk.TheVariants.{To, Broken}
 use Rattle.rules.specs.Lists.{all, fit_to}
 use Rattle.rules.specs.Record.{layout_in, naturals, sound, walk, section_at, entries_from, block_at}
 use Rattle.rules.specs.Dependencies.{index_of, on_index}
@@ -63,18 +62,6 @@ entries_none Rows r b f = rw f
 entries_none States r b f = absurd (true_not_false f refl)
 entries_none Inputs r b f = absurd (true_not_false f refl)
 
--- a list of a block is left out as the flag says
-pub left_rows : {x : Listed} (b : Block) {v : Bool} → x ≡ Rows → v ≡ b.zero → v ≡ left_out x b
-left_rows b e f = f ∙ rw e
-
-pub left_states : {x : Listed} (b : Block) → x ≡ States → false ≡ left_out x b
-left_states b e = rw e
-
-pub left_inputs : {x : Listed} (b : Block) → x ≡ Inputs → false ≡ left_out x b
-left_inputs b e = rw e
-
-pub ruleset leaving = (left_rows, left_states, left_inputs)
-
 -- ---- the block in a slice
 
 none_sound : sound [] ≡ false
@@ -99,17 +86,17 @@ module _ {x : Listed} {r w : ℕ} {start : List ℕ} {block : List ℤ} (a : Blo
   pub lent_is : lent ≡ drop (r + 1) block
   lent_is = to_end (r + 1) block
 
-  module _ {v : Walk} (told : v ≡ walk lent) where
-    pub never_broken : v ≡ Broken → ⊥
+  module _ {v : (Option Head)} (told : v ≡ walk lent) where
+    pub never_broken : v ≡ None → ⊥
     never_broken e = true_not_false a.judged.judged (broken_unsound (drop (r + 1) block) (rw lent_is at told) e)
 
-    pub head_sound : {h : Head} → v ≡ To h → SoundRecord h lent
+    pub head_sound : {h : Head} → v ≡ Some h → SoundRecord h lent
     head_sound {h} e =
         rw lent_is
-        (let walked : walk (drop (r + 1) block) ≡ To h = sym (rw lent_is at told) ∙ e in
+        (let walked : walk (drop (r + 1) block) ≡ Some h = sym (rw lent_is at told) ∙ e in
         record { walked = walked; judged = a.judged.judged; readable = a.judged.readable h walked })
 
-    pub ask_table : {h : Head} → v ≡ To h → {to : ℕ} {s : List ℤ} → room_end to w ≤ length s → TableAsked x h lent start r w to s
+    pub ask_table : {h : Head} → v ≡ Some h → {to : ℕ} {s : List ℤ} → room_end to w ≤ length s → TableAsked x h lent start r w to s
     ask_table e room = record {
       list = record { source = head_sound e; few = a.few; fits = rw lent_is a.fits };
       start_low = a.start_low;
@@ -146,13 +133,13 @@ module _ {x : Listed} {r w : ℕ} {start : List ℕ} {block : List ℤ} (a : Blo
       is = entries_are (sym told ∙ e)
 
       -- it has too many entries, or too large ones
-      pub block_over : not v ≡ true → MergedMore at w (all (small_to (axes_in x r w)) (entries_of x r the_block)) (entries_of x r the_block) s u false
+      pub block_over : v ≡ false → MergedMore at w (all (small_to (axes_in x r w)) (entries_of x r the_block)) (entries_of x r the_block) s u false
       block_over f = rw is (list_over b p f)
 
-      pub block_asks : not v ≡ false → TargetReady at w u × Ready spare w u
+      pub block_asks : v ≡ true → TargetReady at w u × Ready spare w u
       block_asks f = (ask_target b p f, ask_spare b p f)
 
       -- it is merged
-      pub block_merged : not v ≡ false → {t : List ℤ} {y : Bool} → MergedMore at w true (table_at spare w u) u t y →
+      pub block_merged : v ≡ true → {t : List ℤ} {y : Bool} → MergedMore at w true (table_at spare w u) u t y →
           MergedMore at w (all (small_to (axes_in x r w)) (entries_of x r the_block)) (entries_of x r the_block) s t y
       block_merged f m = rw is (list_merged b p f m)

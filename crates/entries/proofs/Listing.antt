@@ -8,7 +8,6 @@ use native.Mathlib.Omega.{arith}
 use lib.IntN.{ℤ, pos}
 use lib.ListN.{length, get_or, replicate, length-map}
 use Rattle.rules.specs.declared.Head.{Head}
-use Rattle.rules.specs.declared.Entries.{Entries}
 use Rattle.rules.specs.Lists.{below, product, fit_to}
 use Rattle.rules.specs.Buffers.{part, put}
 use Rattle.rules.specs.Layout.{Layout, rank, is_dense, is_diagonal}
@@ -35,7 +34,6 @@ use Rattle.records.proofs.SoundRecords.{lies, layout_sound, layout_shown}
 use Rattle.records.proofs.Shown.{record_shape, rank_shown, width_shown}
 use Rattle.lookups.proofs.SoundRecords.{record_extents}
 use Rattle.lookups.proofs.Counting.{kind_read, kind_sparse}
-use Rattle.moving.specs.Fitting.{FitAsked}
 use Rattle.entries.specs.declared.entries.Listed.{Listed}
 use Rattle.entries.specs.declared.entries.Listed.TheVariants.{Rows, States, Inputs}
 use Rattle.entries.specs.Listing.{fitted, listed, row_width, ListAsked, DepAsked}
@@ -132,15 +130,6 @@ module _ {h : Head} {s : List ℤ} (q : SoundRecord h s) where
       pub is_row : (out : List ℤ) → row_at 0 h.width out ≡ row_at (h.rows.first + i * h.width) h.width s →
           row_at 0 (row_width (layout_in s)) out ≡ get_or (rows_of_block (layout_in s)) i []
       is_row out is = rw (sparse_rows, kind_two, width_shown q) (is ∙ sym (row_of h.rows.first h.width h.rows.count s i sparse_inside))
-
--- ---- a dependency: `dep_of`
-
-module _ {deps : Entries} {old r i : ℕ} {s : List ℤ} (a : DepAsked deps old r i s) where
-  pub dep_ended : deps.first + i * (old + 1) + (old + 1) ≤ length s
-  dep_ended = omega (arith, row_ends (old + 1) a.within, a.has.room)
-
-  pub ask_fit : FitAsked (deps.first + i * (old + 1)) old r s
-  ask_fit = record { room = omega (arith, dep_ended); old_few = a.old_few; rank_few = a.few }
 
 -- ---- how many entries there are: `count_of`
 

@@ -1,24 +1,28 @@
 -- Entries that stand in a record as they are listed, and these moved into a table: `standing_of`, `move_entry`, `move_entries` and
 -- `list_block`. Assumes nothing.
+use Rattle.std.specs.Prelude.{None, Option, Some}
 use mathlib.Core.Path.{◌≡◌, refl, sym, ap, ◌∙◌}
-use mathlib.Core.Bool.{Bool, true, false, not}
+use mathlib.Core.Bool.{Bool, true, false}
 use mathlib.Core.List.{List, [], map, map-id}
 use mathlib.Core.Logic.{inl, inr}
 use Prim.Native.Nat.{ℕ, ◌+◌, ◌*◌, ◌^◌, ◌<◌, ◌≤◌}
 use native.Mathlib.Numerals.{add-one}
 use native.Mathlib.Omega.{arith}
-use borrow.Author.Tests.{eqb-true, le-leb, not-true, not-false}
+use borrow.Author.Tests.{eqb-true, le-leb}
 use lib.Dec.{eqb}
 use lib.IntN.{ℤ, pos}
 use lib.ListN.{length, get_or, set, take, drop, length-map}
 use lib.Seq.{get_or-take, take-suc, take_all, drop-set-add, take-set-lt}
 use Rattle.rules.specs.declared.Head.{Head}
 use Rattle.rules.specs.declared.Entries.{Entries}
+use Rattle.rules.specs.declared.Kind.{Kind}
+use Rattle.rules.specs.declared.Kind.TheVariants.{Sparse}
+use Rattle.rules.proofs.KindRead.{sparse_number}
 use Rattle.rules.specs.Limits.{entry_limit, product_limit, component_limit}
 use Rattle.rules.specs.Lists.{if, fit_to}
 use Rattle.rules.specs.Buffers.{part, put}
 use Rattle.rules.specs.RowsInOrder.{sorted, Each}
-use Rattle.rules.specs.Layout.{Layout}
+use Rattle.rules.specs.Layout.{Layout, kind_of}
 use Rattle.rules.specs.Record.{layout_in}
 use Rattle.rules.specs.Dependencies.{on_index}
 use Rattle.rules.specs.Concatenate.{moved_by}
@@ -42,14 +46,12 @@ use Rattle.tables.proofs.Passing.{Passed, none_passed, one_more, one_fails, all_
 use Rattle.parts.specs.Parts.{window_size, spare, other_spare}
 use Rattle.records.specs.Sound.{SoundRecord}
 use Rattle.records.proofs.Layouts.{has_states, has_inputs, has_rows_there}
-use Rattle.records.proofs.SoundRecords.{lies, layout_shown}
+use Rattle.records.proofs.SoundRecords.{lies, layout_shown, layout_sound}
 use Rattle.records.proofs.Shown.{width_shown}
 use Rattle.lookups.proofs.Counting.{kind_read}
 use Rattle.moving.proofs.Shortening.{map_alike}
 use Rattle.entries.specs.declared.entries.Listed.{Listed}
 use Rattle.entries.specs.declared.entries.Listed.TheVariants.{Rows, States, Inputs}
-use Rattle.entries.specs.declared.standing.Standing.{Standing}
-use Rattle.entries.specs.declared.standing.Standing.TheVariants.{At, Nowhere}
 use Rattle.entries.specs.Listing.{fitted, listed, moved_list, OfWidth, axes_in, Moved}
 use Rattle.entries.specs.Merging.{small_to, TableAsked, Tabled}
 use Rattle.entries.specs.Standing.{Stands, StandsAs, PlaceAsked, Placed, RowsAsked, AllPlaced}
@@ -67,10 +69,10 @@ fitted_same r a n s h =
 -- dependencies stand so if they have the asked rank
 deps_stand : (x : Listed) (r old : ℕ) {s : List ℤ} (deps : Entries) → HasRows deps.first (old + 1) deps.count s → deps.count ≤ entry_limit →
     listed x r (layout_in s) ≡ fitted r (rows_at deps.first (old + 1) deps.count s) → ((w : ℕ) → OfWidth x r w (layout_in s) → w ≡ r + 1) →
-    {v : Standing} → v ≡ if (eqb old r) (At deps) Nowhere → StandsAs x r s v
+    {v : (Option Entries)} → v ≡ if (eqb old r) (Some deps) None → StandsAs x r s v
 deps_stand x r old {s} deps has few are wide e = rw e (by (eqb old r) refl)
   where
-    by : (t : Bool) → eqb old r ≡ t → StandsAs x r s (if t (At deps) Nowhere)
+    by : (t : Bool) → eqb old r ≡ t → StandsAs x r s (if t (Some deps) None)
     by true t =
         λ w f.
         let same : old ≡ r = eqb-true old r t in
@@ -81,11 +83,11 @@ deps_stand x r old {s} deps has few are wide e = rw e (by (eqb old r) refl)
 
 module _ {x : Listed} (r : ℕ) {h : Head} {s : List ℤ} (q : SoundRecord h s) where
   -- the rows of a sparse block
-  pub rows_stand : x ≡ Rows → {k : ℕ} → k ≡ get_or (view s) 0 0 → k ≡ 2 → StandsAs x r s (At h.rows)
+  pub rows_stand : x ≡ Rows → {k : Kind} → k ≡ kind_of (get_or (view s) 0 0) → k ≡ Sparse → StandsAs x r s (Some h.rows)
   rows_stand e k z =
       rw e
       (λ w f.
-      let sparse : (layout_in s).kind ≡ 2 = kind_read q k ∙ z in
+      let sparse : (layout_in s).kind ≡ 2 = sparse_number (k ∙ ap kind_of (sym (kind_read q refl))) z (layout_sound q).form.kind_most in
       let wide : w ≡ h.width = rw (sparse, width_shown q) at f.1 in
       rw wide
       (record {
@@ -94,11 +96,11 @@ module _ {x : Listed} (r : ℕ) {h : Head} {s : List ℤ} (q : SoundRecord h s) 
         are = sym (rows_sparse (layout_in s) sparse ∙ ap (λ (l : Layout). l.rows) (layout_shown q));
       }))
 
-  pub states_stand : x ≡ States → {v : Standing} → v ≡ if (eqb h.rank r) (At h.states) Nowhere → StandsAs x r s v
+  pub states_stand : x ≡ States → {v : (Option Entries)} → v ≡ if (eqb h.rank r) (Some h.states) None → StandsAs x r s v
   states_stand e f =
       rw e (deps_stand States r h.rank h.states (has_states q.readable) (lies q).states_few (ap (λ (l : Layout). fitted r l.states) (layout_shown q)) (λ w g. g.1) f)
 
-  pub inputs_stand : x ≡ Inputs → {v : Standing} → v ≡ if (eqb h.rank r) (At h.inputs) Nowhere → StandsAs x r s v
+  pub inputs_stand : x ≡ Inputs → {v : (Option Entries)} → v ≡ if (eqb h.rank r) (Some h.inputs) None → StandsAs x r s v
   inputs_stand e f =
       rw e (deps_stand Inputs r h.rank h.inputs (has_inputs q.readable) (lies q).inputs_few (ap (λ (l : Layout). fitted r l.inputs) (layout_shown q)) (λ w g. g.1) f)
 
@@ -291,17 +293,17 @@ module _ {first count : ℕ} {src : List ℤ} {start : List ℕ} {n w to : ℕ} 
         placed_only : Only to (room_end to w) s u
         placed_only = only_then g.only (only_wider m.only to (room_end to w) (omega arith) (omega (arith, row_fits)))
 
-        pub all_stop : not r ≡ true → AllPlaced to w n (moved_rows start n first w count src) s u false
-        all_stop f = record { verdict = one_fails g.small [] h told (not-true r f); table = λ z. absurd (true_not_false z refl); only = placed_only }
+        pub all_stop : r ≡ false → AllPlaced to w n (moved_rows start n first w count src) s u false
+        all_stop f = record { verdict = one_fails g.small [] h told f; table = λ z. absurd (true_not_false z refl); only = placed_only }
 
-        pub all_turn : not r ≡ false → PlacingAll first count src start n w to (i + 1) s u
+        pub all_turn : r ≡ true → PlacingAll first count src start n w to (i + 1) s u
         all_turn f = record {
           asked = g.asked;
-          small = one_more g.small [] h told (not-false r f);
+          small = one_more g.small [] h told f;
           counted = view_outside m.only to (inl (omega arith)) ∙ g.counted;
           rows =
               rows_more (to + 1) w i u
-              ∙ rw (rows_outside m.only (to + 1) w i (inl (omega arith)), g.rows, m.there (not-false r f), ← row_is)
+              ∙ rw (rows_outside m.only (to + 1) w i (inl (omega arith)), g.rows, m.there f, ← row_is)
               (sym (rw (add-one i) (take-suc (moved_rows start n first w count src) i [] (omega (arith, g.small.size)))));
           only = placed_only;
         }
@@ -323,7 +325,7 @@ module _ {x : Listed} {h : Head} {src : List ℤ} {start : List ℕ} {r w : ℕ}
   made_listed p = record { verdict = p.verdict; table = p.table; ready = p.ready; only = only_wider p.only spare window_size (omega arith) (omega (arith, axes.narrow)) }
 
   -- in one walk
-  module _ {v : Standing} (told : StandsAs x r src v) {e : Entries} (is : v ≡ At e) where
+  module _ {v : (Option Entries)} (told : StandsAs x r src v) {e : Entries} (is : v ≡ Some e) where
     there : Stands x r w src e
     there = (rw is at told) w a.list.fits
 
@@ -356,17 +358,17 @@ module _ {x : Listed} {h : Head} {src : List ℤ} {start : List ℕ} {r w : ℕ}
         walked_only : Only spare window_size s u
         walked_only = only_wider m.only spare window_size (omega arith) (omega (arith, axes.narrow))
 
-        pub walk_over : not b ≡ true → Tabled spare w (axes_in x r w) window_size moved_all s u false
+        pub walk_over : b ≡ false → Tabled spare w (axes_in x r w) window_size moved_all s u false
         walk_over f = record {
-          verdict = rw (← m.verdict, not-true b f);
+          verdict = rw (← m.verdict, f);
           table = λ z. absurd (true_not_false z refl);
           ready = λ z. absurd (true_not_false z refl);
           only = walked_only;
         }
 
-        module _ (f : not b ≡ false) where
+        module _ (f : b ≡ true) where
           table_is : table_at other_spare w u ≡ moved_all
-          table_is = m.table (not-false b f)
+          table_is = m.table f
 
           few_moved : length moved_all ≤ 128
           few_moved = rw (← rows_are, length-map, length_rows) there.few
@@ -383,7 +385,7 @@ module _ {x : Listed} {h : Head} {src : List ℤ} {start : List ℕ} {r w : ℕ}
           walk_sorted {t} p =
               let is_sorted : table_at spare w t ≡ sorted moved_all = p.table ∙ ap sorted table_is in
               record {
-                verdict = rw (← m.verdict, not-false b f) (sym (le-leb (length (sorted moved_all)) 128 (omega (arith, sorted_length moved_all, few_moved))));
+                verdict = rw (← m.verdict, f) (sym (le-leb (length (sorted moved_all)) 128 (omega (arith, sorted_length moved_all, few_moved))));
                 table = λ _. is_sorted;
                 ready = λ _. sorted_ready ask_sort p;
                 only = only_then walked_only (only_wider p.only spare window_size (omega arith) (omega (arith, axes.narrow)));

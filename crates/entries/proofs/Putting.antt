@@ -1,10 +1,9 @@
 -- One entry put if it is small, and a list of a block that becomes a table: `put_small` and `list_block`. Assumes nothing.
 use mathlib.Core.Path.{◌≡◌, refl, sym, ◌∙◌}
-use mathlib.Core.Bool.{Bool, true, false, not, ◌&&◌}
+use mathlib.Core.Bool.{Bool, true, false, ◌&&◌}
 use mathlib.Core.List.{List, [], ◌∷◌}
 use Prim.Native.Nat.{ℕ, zero, suc, ◌+◌, ◌<◌, ◌≤◌}
 use native.Mathlib.Omega.{arith}
-use borrow.Author.Tests.{not-true, not-false}
 use lib.IntN.{ℤ, pos}
 use lib.ListN.{length, get_or, set, take, replicate, length-map, length-take, length-replicate, get_or-replicate}
 use lib.Seq.{get_or-take}
@@ -70,17 +69,15 @@ module _ {entry : List ℤ} {n to w : ℕ} {s : List ℤ} (a : SmallAsked entry 
     small_told =
         sym (told ∙ rw (limits_row n a.narrow, front_row 0 n w entry a.upto) (cut_below n product_limit (row_at 0 w entry)))
 
-    pub too_large : not b ≡ true → PutSmall to w n (row_at 0 w entry) s s false
+    pub too_large : b ≡ false → PutSmall to w n (row_at 0 w entry) s s false
     too_large f = record {
       small = λ e. absurd (true_not_false e refl);
-      put = λ e. absurd (true_not_false (sym small_told ∙ e) (not-true b f));
+      put = λ e. absurd (true_not_false (sym small_told ∙ e) f);
       only = only_same to (room_end to w) s;
     }
 
-    pub small_put : not b ≡ false → {t : List ℤ} {r : Bool} → Put to w (row_at 0 w entry) s t r → PutSmall to w n (row_at 0 w entry) s t r
-    small_put f p = record { small = λ e. small_told ∙ not-false b f; put = λ e. p; only = p.only }
-
-pub ruleset putting = (too_large, small_put)
+    pub small_put : b ≡ true → {t : List ℤ} {r : Bool} → Put to w (row_at 0 w entry) s t r → PutSmall to w n (row_at 0 w entry) s t r
+    small_put f p = record { small = λ e. small_told ∙ f; put = λ e. p; only = p.only }
 
 -- ---- a list of a block: `list_block`
 

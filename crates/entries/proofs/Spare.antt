@@ -1,12 +1,12 @@
 -- A table that takes the one in the spare part, and the entries of one block: `merge_spare` and `merge_block`. Assumes nothing.
 use mathlib.Core.Path.{◌≡◌, refl, sym, ◌∙◌, subst}
-use mathlib.Core.Bool.{Bool, true, false, not, ◌&&◌}
+use mathlib.Core.Bool.{Bool, true, false, ◌&&◌}
 use mathlib.Core.List.{List, [], ◌++◌}
 use mathlib.Core.Logic.{◌⊎◌, inl, inr}
 use Prim.Native.Nat.{ℕ, ◌+◌, ◌*◌, ◌≤◌}
 use native.Mathlib.Nat.{mul-le-mul_right}
 use native.Mathlib.Omega.{arith}
-use borrow.Author.Tests.{not-true, not-false, leb-false, le-leb, lt-leb}
+use borrow.Author.Tests.{leb-false, le-leb, lt-leb}
 use lib.IntN.{ℤ}
 use lib.ListN.{length, get_or}
 use Rattle.rules.specs.Lists.{all}
@@ -46,12 +46,12 @@ module _ {at w : ℕ} {s : List ℤ} (a : TargetReady at w s) (b : Ready spare w
     merged_only : Only at window_size s u
     merged_only = only_wider m.only at window_size (omega (arith, a.before)) (omega (arith, a.narrow))
 
-    pub spare_over : not r ≡ true → MergedMore at w true (table_at spare w s) s u false
-    spare_over e = record { verdict = sym (not-true r e) ∙ m.verdict; table = none_made; ready = none_made; only = merged_only }
+    pub spare_over : r ≡ false → MergedMore at w true (table_at spare w s) s u false
+    spare_over e = record { verdict = sym e ∙ m.verdict; table = none_made; ready = none_made; only = merged_only }
 
-    module _ (e : not r ≡ false) {n : ℕ} (count : n ≡ get_or (view u) other_spare 0) where
+    module _ (e : r ≡ true) {n : ℕ} (count : n ≡ get_or (view u) other_spare 0) where
       there : Ready other_spare w u
-      there = merged_ready ask_merge m (not-false r e)
+      there = merged_ready ask_merge m e
 
       pub size_most : n * w ≤ 640
       size_most =
@@ -81,8 +81,8 @@ module _ {at w : ℕ} {s : List ℤ} (a : TargetReady at w s) (b : Ready spare w
 
         pub spare_merged : MergedMore at w true (table_at spare w s) s t true
         spare_merged = record {
-          verdict = sym (not-false r e) ∙ m.verdict;
-          table = λ _. table_there ∙ m.table (not-false r e);
+          verdict = sym e ∙ m.verdict;
+          table = λ _. table_there ∙ m.table e;
           ready = λ _.
               made_ready (rw (moved_only.size, merged_only.size) (omega (arith, a.room, a.before))) table_there (rw table_length there.fits.few) there.fits.low there.increasing;
           only = only_then merged_only moved_only;
@@ -115,14 +115,14 @@ module _ {at w : ℕ} {s : List ℤ} (a : TargetReady at w s) where
     list_only = only_wider p.only at window_size (omega (arith, a.before)) (omega arith)
 
     -- they are not small, or too many
-    pub list_over : not r ≡ true → MergedMore at w (all (small_to n) rows) rows s u false
-    list_over e = record { verdict = by (all (small_to n) rows) (sym p.verdict ∙ not-true r e); table = none_made; ready = none_made; only = list_only }
+    pub list_over : r ≡ false → MergedMore at w (all (small_to n) rows) rows s u false
+    list_over e = record { verdict = by (all (small_to n) rows) (sym p.verdict ∙ e); table = none_made; ready = none_made; only = list_only }
       where
         by : (small : Bool) → small && few (sorted rows) ≡ false → false ≡ small && few (sorted (table_at at w s ++ rows))
         by true f = sym (few_less (table_at at w s) rows f)
         by false f = refl
 
-    module _ (e : not r ≡ false) where
+    module _ (e : r ≡ true) where
       same_table : table_at at w u ≡ table_at at w s
       same_table = table_outside p.only at w a.ready.fits.few (inl a.before)
 
@@ -135,13 +135,13 @@ module _ {at w : ℕ} {s : List ℤ} (a : TargetReady at w s) where
       }
 
       pub ask_spare : Ready spare w u
-      ask_spare = p.ready (not-false r e)
+      ask_spare = p.ready e
 
       pub list_merged : {t : List ℤ} {v : Bool} → MergedMore at w true (table_at spare w u) u t v → MergedMore at w (all (small_to n) rows) rows s t v
       list_merged m =
           let both : sorted (table_at at w u ++ table_at spare w u) ≡ sorted (table_at at w s ++ rows) =
-          rw (same_table, p.table (not-false r e)) (sorted_right (table_at at w s) rows) in
-          let small = (both_true (all (small_to n) rows) (few (sorted rows)) (sym p.verdict ∙ not-false r e)).0 in
+          rw (same_table, p.table e) (sorted_right (table_at at w s) rows) in
+          let small = (both_true (all (small_to n) rows) (few (sorted rows)) (sym p.verdict ∙ e)).0 in
           record {
             verdict = m.verdict ∙ rw (both, small);
             table = λ f. m.table f ∙ both;

@@ -1,4 +1,5 @@
 -- Entries that stand in a record as they are listed, and these moved into a table.
+use Rattle.std.specs.Prelude.{None, Option, Some}
 use Rattle.std.specs.Prelude.{◌≡◌, Bool, true, List, ℕ, ◌+◌, ◌≤◌, ℤ, length}
 use Rattle.rules.specs.declared.Entries.{Entries}
 use Rattle.rules.specs.Limits.{rank_limit, entry_limit}
@@ -7,8 +8,6 @@ use Rattle.rules.specs.Record.{layout_in}
 use Rattle.tables.specs.Rows.{row_at, rows_at, HasRow, HasRows}
 use Rattle.tables.specs.Tables.{table_at, room_end, Only}
 use Rattle.entries.specs.declared.entries.Listed.{Listed}
-use Rattle.entries.specs.declared.standing.Standing.{Standing}
-use Rattle.entries.specs.declared.standing.Standing.TheVariants.{At, Nowhere}
 use Rattle.entries.specs.Listing.{listed, OfWidth, StartLow}
 use Rattle.entries.specs.Merging.{small_to}
 
@@ -21,9 +20,9 @@ pub record Stands (x : Listed) (r w : ℕ) (s : List ℤ) (e : Entries) : Type 0
   pub are : rows_at e.first w e.count s ≡ listed x r (layout_in s)
 
 -- where it is told that they stand, they do
-abbrev pub StandsAs : Listed → ℕ → List ℤ → Standing → Type 0
-StandsAs x r s (At e) = (w : ℕ) → OfWidth x r w (layout_in s) → Stands x r w s e
-StandsAs x r s Nowhere = Unit
+abbrev pub StandsAs : Listed → ℕ → List ℤ → Option Entries → Type 0
+StandsAs x r s (Some e) = (w : ℕ) → OfWidth x r w (layout_in s) → Stands x r w s e
+StandsAs x r s None = Unit
 
 -- ---- one of them moved
 

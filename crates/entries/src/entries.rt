@@ -8,7 +8,7 @@ ghost use Rattle.tables.specs.Rows.{row_at};
 ghost use Rattle.records.specs.Sound.{SoundRecord};
 ghost use Rattle.entries.specs.Listing.{listed, moved_list, row_width, axes_in, ListAsked, DepAsked, StartLow, MoveAsked, Moved, EntryIs};
 
-use rules::{Entries, Head};
+use rules::{Entries, Head, Kind};
 
 // The lists of a block.
 #[derive(Clone, Copy)]
@@ -27,8 +27,7 @@ pub fn axes_in(list: Listed, rank: usize, w: usize) -> usize
 {
     match list {
         Listed::Rows => w,
-        Listed::States => rank,
-        Listed::Inputs => rank,
+        Listed::States | Listed::Inputs => rank,
     }
 }
 
@@ -38,18 +37,15 @@ fn row_of(from: &[i32], head: Head, i: usize) -> [i32; 5]
     requires i_in_bounds { i < length (rows_of_block (layout_in from.now)) }
     ensures { row_at 0 (row_width (layout_in from.now)) result ≡ get_or (rows_of_block (layout_in from.now)) i [] }
 {
-    let kind = cells::get(from, records::KIND);
-    if kind == 0 {
-        let mut index = [0i32; 5];
-        axes::unravel_into(i, from, records::EXTENTS, head.rank, &mut index, 0);
-        return index;
+    match records::kind_at(from, records::KIND) {
+        Kind::Dense => {
+            let mut index = [0i32; 5];
+            axes::unravel_into(i, from, records::EXTENTS, head.rank, &mut index, 0);
+            index
+        }
+        Kind::Diagonal => [cells::whole(i); 5],
+        Kind::Sparse => tables::read_row(from, head.rows.first + i * head.width, head.width),
     }
-    if kind == 1 {
-        let number = cells::whole(i);
-        return [number; 5];
-    }
-    let rows = head.rows;
-    tables::read_row(from, rows.first + i * head.width, head.width)
 }
 
 // Dependency i of a list of them, fitted to a rank.
@@ -67,14 +63,8 @@ pub fn count_of(list: Listed, from: &[i32], head: Head, rank: usize) -> usize
 {
     match list {
         Listed::Rows => lookups::nnz(from, head),
-        Listed::States => {
-            let states = head.states;
-            states.count
-        }
-        Listed::Inputs => {
-            let inputs = head.inputs;
-            inputs.count
-        }
+        Listed::States => head.states.count,
+        Listed::Inputs => head.inputs.count,
     }
 }
 

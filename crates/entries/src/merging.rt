@@ -10,9 +10,10 @@ ghost use Rattle.entries.specs.Listing.{moved_list, axes_in};
 ghost use Rattle.entries.specs.Merging.{small_to, SmallAsked, PutSmall, TableAsked, Tabled, TargetReady, MergedMore, entries_of, joined, BlockAsked, AllAsked, blocks_of, left_out};
 
 use super::entries::{Listed, axes_in, count_of, moved_entry};
-use super::standing::{Standing, move_entries, standing_of};
+use super::standing::{move_entries, standing_of};
+use lists::Places;
 use parts::{OTHER_SPARE, SPARE};
-use rules::{Head, Walk};
+use rules::Head;
 
 // The first w numbers of an entry are put into the table at a place, in order and once; false where it would be the 129th entry, or one
 // of its first n numbers is above 65,535.
@@ -21,10 +22,7 @@ fn put_small(entry: [i32; 5], n: usize, window: &mut [i32], to: usize, w: usize)
     ensures { PutSmall to w n (row_at 0 w entry) window.old window.new result }
 {
     let limits = [65536i32; 4];
-    if !axes::row_below(&entry, 0, &limits, 0, n) {
-        return false;
-    }
-    tables::put_row(window, to, w, &entry, 0)
+    axes::row_below(&entry, 0, &limits, 0, n) && tables::put_row(window, to, w, &entry, 0)
 }
 
 // A list of a block, made entry by entry and moved by the start of the block, becomes the table at a place; false where it has too
@@ -45,13 +43,11 @@ fn list_made(
     cells::store(window, to, 0);
     let count = count_of(list, from, head, rank);
     let n = axes_in(list, rank, w);
-    let mut i = 0;
-    while i < count {
+    for i in 0..count {
         let entry = moved_entry(list, from, head, start, rank, w, i);
         if !put_small(entry, n, window, to, w) {
             return false;
         }
-        i += 1;
     }
     true
 }
@@ -70,7 +66,7 @@ fn list_block(
     requires { TableAsked list head from.now start rank w other_spare window.old }
     ensures { Tabled spare w (axes_in list rank w) window_size (moved_list list rank (take rank start) (layout_in from.now)) window.old window.new result }
 {
-    let Standing::At(rows) = standing_of(list, from, head, rank) else {
+    let Some(rows) = standing_of(list, from, head, rank) else {
         return list_made(list, from, head, start, rank, w, window, SPARE);
     };
     if !move_entries(
@@ -108,8 +104,7 @@ fn left_out(list: Listed, block: &[i32], rank: usize) -> bool
 {
     match list {
         Listed::Rows => lists::is_zero(block, rank),
-        Listed::States => false,
-        Listed::Inputs => false,
+        Listed::States | Listed::Inputs => false,
     }
 }
 
@@ -132,7 +127,7 @@ fn merge_block(
         return true;
     }
     let record = rank + 1;
-    let Walk::To(head) = records::walk_record(&block[record..]) else {
+    let Some(head) = records::walk_record(&block[record..]) else {
         return false;
     };
     if !list_block(list, &block[record..], head, start, rank, w, window) {
@@ -141,26 +136,25 @@ fn merge_block(
     merge_spare(window, at, w)
 }
 
-// A list of n blocks, each moved by its start, becomes the table at a place, in order and once each; false where it has too many
+// A list of the blocks, each moved by its start, becomes the table at a place, in order and once each; false where it has too many
 // entries, or too large ones.
 pub fn merge_blocks(
     list: Listed,
     s: &[i32],
-    places: [usize; 16],
-    n: usize,
+    places: &Places,
     starts: [[usize; 4]; 16],
     rank: usize,
     w: usize,
     window: &mut [i32],
     at: usize,
 ) -> bool
-    requires all_asked { AllAsked list rank w n places starts s.now }
+    requires all_asked { AllAsked list rank w places.now.count places.now.at starts s.now }
     requires w_bound { (room_end at w ≤ spare) × (w ≤ 5) × (window_size ≤ length window.old) }
-    ensures { Tabled at w (axes_in list rank w) window_size (joined list rank (blocks_of rank n places s.now)) window.old window.new result }
+    ensures { Tabled at w (axes_in list rank w) window_size (joined list rank (blocks_of rank places.now.count places.now.at s.now)) window.old window.new result }
 {
     cells::store(window, at, 0);
-    for i in 0..n {
-        let place = places[i];
+    for i in 0..places.count {
+        let place = places.at[i];
         if !merge_block(list, &s[place..], starts[i], rank, w, window, at) {
             return false;
         }

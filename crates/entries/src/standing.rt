@@ -1,45 +1,32 @@
 // Entries of a block that stand in its record as they are listed: found there, and moved into a table by the start of the block.
+ghost use Rattle.std.specs.Prelude.{None, Some};
 ghost use Rattle.std.specs.Prelude.{◌≡◌, map, eqb, take};
 ghost use Rattle.rules.specs.Lists.{if};
 ghost use Rattle.rules.specs.Concatenate.{moved_by};
 ghost use Rattle.tables.specs.Rows.{row_at, rows_at};
 ghost use Rattle.records.specs.Sound.{SoundRecord};
-ghost use Rattle.entries.specs.declared.standing.Standing.TheVariants.{At, Nowhere};
 ghost use Rattle.entries.specs.Standing.{StandsAs, PlaceAsked, Placed, RowsAsked, AllPlaced};
 
 use super::entries::Listed;
-use rules::{Entries, Head};
+use rules::{Entries, Head, Kind};
 
-// Where the entries of a list of a block stand in its record as they are listed.
-#[derive(Clone, Copy)]
-pub enum Standing {
-    At(Entries),
-    Nowhere,
-}
-
-// Dependencies stand so if they have the asked rank.
-fn deps_of(deps: Entries, old: usize, rank: usize) -> Standing
-    ensures { result ≡ if (eqb old rank) (At deps) Nowhere }
+// Dependencies stand in a record as they are listed if they have the asked rank.
+fn deps_of(deps: Entries, old: usize, rank: usize) -> Option<Entries>
+    ensures { result ≡ if (eqb old rank) (Some deps) None }
 {
-    if old == rank {
-        return Standing::At(deps);
-    }
-    Standing::Nowhere
+    if old == rank { Some(deps) } else { None }
 }
 
-// Where the entries of a list of a block stand so: the rows of a sparse block, dependencies of the asked rank.
-pub fn standing_of(list: Listed, from: &[i32], head: Head, rank: usize) -> Standing
+// Where the entries of a list of a block stand in its record as they are listed: the rows of a sparse block, dependencies of the asked rank.
+pub fn standing_of(list: Listed, from: &[i32], head: Head, rank: usize) -> Option<Entries>
     requires { SoundRecord head from.now }
     ensures { StandsAs list rank from.now result }
 {
     match list {
-        Listed::Rows => {
-            if cells::get(from, records::KIND) == 2 {
-                let rows = head.rows;
-                return Standing::At(rows);
-            }
-            Standing::Nowhere
-        }
+        Listed::Rows => match records::kind_at(from, records::KIND) {
+            Kind::Sparse => Some(head.rows),
+            _ => None,
+        },
         Listed::States => deps_of(head.states, head.rank, rank),
         Listed::Inputs => deps_of(head.inputs, head.rank, rank),
     }
@@ -86,12 +73,10 @@ pub fn move_entries(
     let first = rows.first;
     let count = rows.count;
     cells::store(window, to, count);
-    let mut i = 0;
-    while i < count {
+    for i in 0..count {
         if !move_entry(from, first + i * w, start, n, w, window, to + 1 + i * w) {
             return false;
         }
-        i += 1;
     }
     true
 }

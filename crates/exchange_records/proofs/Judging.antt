@@ -1,4 +1,5 @@
 -- What a list of numbers is answered with, by its counts. Assumes nothing.
+use Rattle.std.specs.Prelude.{None, Option, Some}
 use mathlib.Core.Path.{◌≡◌, refl, sym, ap, ◌∙◌}
 use mathlib.Core.Bool.{Bool, true, false, not}
 use mathlib.Core.List.{List, [], ◌∷◌}
@@ -13,8 +14,6 @@ use Rattle.rules.specs.Limits.{list_limit}
 use Rattle.rules.specs.Lists.{if}
 use Rattle.rules.specs.Record.{natural}
 use Rattle.rules.specs.Arguments.{over_count}
-use Rattle.cells.specs.declared.Sign.{Sign}
-use Rattle.cells.specs.declared.Sign.TheVariants.{Natural, Negative}
 use Rattle.cells.specs.View.{sign_of}
 use Rattle.records.proofs.EndToEnd.{to_end}
 use Rattle.shapes.proofs.Reading.{as_natural, as_over, as_over_negative}
@@ -32,13 +31,13 @@ unfolding are_pairs
 pairs_none [] e = refl
 pairs_none (z ∷ rest) e = absurd (omega arith)
 
-pub pairs_negative : (rest : List ℤ) {g : Sign} → g ≡ sign_of (get_or rest 0 (pos 0)) → g ≡ Negative → false ≡ are_pairs rest
+pub pairs_negative : (rest : List ℤ) {g : Option ℕ} → g ≡ sign_of (get_or rest 0 (pos 0)) → g ≡ None → false ≡ are_pairs rest
 unfolding are_pairs sign_of
 pairs_negative [] e f = refl
 pairs_negative (pos n ∷ rest) e f = cc
 pairs_negative (negsuc n ∷ rest) e f = refl
 
-pub pairs_counted : (rest : List ℤ) {g : Sign} {n : ℕ} → (length rest ≡ 0 → ⊥) → g ≡ sign_of (get_or rest 0 (pos 0)) → g ≡ Natural n → eqb (length rest - 1) (2 * n) ≡ are_pairs rest
+pub pairs_counted : (rest : List ℤ) {g : Option ℕ} {n : ℕ} → (length rest ≡ 0 → ⊥) → g ≡ sign_of (get_or rest 0 (pos 0)) → g ≡ Some n → eqb (length rest - 1) (2 * n) ≡ are_pairs rest
 unfolding are_pairs sign_of
 pairs_counted [] h e f = absurd (h refl)
 pairs_counted (pos m ∷ rest) {n = n} h e f = let is : m ≡ n = cc in let size : length (pos m ∷ rest) - 1 ≡ length rest = omega arith in rw (size, is)
@@ -103,11 +102,11 @@ module _ (list : List ℤ) where
       go [] h = absurd (h refl)
       go (z ∷ l) h = refl
 
-    module _ {g : Sign} (e : g ≡ sign_of (get_or list 0 (pos 0))) where
-      pub list_negative : g ≡ Negative → refused_text 1 ≡ list_text list
+    module _ {g : Option ℕ} (e : g ≡ sign_of (get_or list 0 (pos 0))) where
+      pub list_negative : g ≡ None → refused_text 1 ≡ list_text list
       list_negative f = rw (counted, ← as_over_negative (get_or list 0 (pos 0)) e f)
 
-      module _ {n : ℕ} (f : g ≡ Natural n) where
+      module _ {n : ℕ} (f : g ≡ Some n) where
         pub list_over : list_limit < n → refused_text 1 ≡ list_text list
         list_over k = rw (counted, ← as_over (get_or list 0 (pos 0)) e f, lt-ltb list_limit n k)
 

@@ -1,14 +1,17 @@
 -- Records loaded into the slots of a pile. Assumes nothing.
+use Rattle.std.specs.Prelude.{None, Option, Some}
+use Rattle.rules.specs.declared.Head.{Head}
 use mathlib.Core.Path.{◌≡◌, refl, sym, ap, ◌∙◌}
-use mathlib.Core.List.{List, ◌++◌, append-nil}
-use Prim.Native.Nat.{ℕ, zero, suc, ◌+◌, ◌*◌, ◌-◌, ◌<◌, ◌≤◌}
+use mathlib.Core.List.{List, append-nil}
+use Prim.Native.Nat.{ℕ, zero, suc, ◌+◌, ◌*◌, ◌-◌, ◌<◌, ◌≤◌, min}
 use native.Mathlib.Numerals.{add-one}
 use native.Mathlib.Omega.{arith}
+use borrow.Author.Tests.{leb-true, leb-false}
+use lib.Dec.{leb}
+use mathlib.Core.Bool.{Bool, true, false}
 use lib.IntN.{ℤ}
 use lib.ListN.{length, take, drop, length-append, length-take, length-drop, drop_of_length-le}
-use lib.Seq.{take_all, length-take-le}
-use Rattle.rules.specs.declared.Walk.{Walk}
-use Rattle.rules.specs.declared.Walk.TheVariants.{To, Broken}
+use lib.Seq.{take_all, take-length, length-take-le}
 use Rattle.rules.specs.Limits.{result_size, list_limit}
 use Rattle.rules.specs.Buffers.{over, zeros}
 use Rattle.rules.specs.Record.{walk, rest_from, behind_record}
@@ -33,31 +36,24 @@ over_whole : (new old : List ℤ) → length old ≤ length new → over new old
 unfolding over
 over_whole new old h = rw (drop_of_length-le old {i = length new} h, append-nil)
 
-module _ (size : ℕ) (numbers slot : List ℤ) (is : length slot ≡ size) where
-  cleared : over (zeros size) slot ≡ zeros size
-  cleared = over_whole (zeros size) slot (rw length_zeros (omega arith))
+-- what there is room for, by the shorter length
+capped : (n size : ℕ) (numbers : List ℤ) → n ≡ min (length numbers) size → take n numbers ≡ take size numbers
+capped n size numbers e = go (leb (length numbers) size) refl where
+  go : (t : Bool) → leb (length numbers) size ≡ t → take n numbers ≡ take size numbers
+  go true h =
+      let k = leb-true (length numbers) size h in
+      let is : n ≡ length numbers = omega arith in
+      rw (is, take-length, take_all size numbers k)
+  go false h = let k = leb-false (length numbers) size h in let is : n ≡ size = omega arith in rw is
 
-  -- too many numbers
-  long_slot : size < length numbers → over (take size numbers) (over (zeros size) slot) ≡ take size numbers ++ zeros (size - length numbers)
-  long_slot h =
-      let none : size - length numbers ≡ 0 = omega arith in
-      let all : length (take size numbers) ≡ size = length-take-le size numbers (omega arith) in
-      let zeros-size = length_zeros size in
-      rw (cleared, over_whole (take size numbers) (zeros size) (omega arith), none) (sym (append-nil (take size numbers)))
-
-  -- no more than there is room for
-  short_slot : length numbers ≤ size → over numbers (over (zeros size) slot) ≡ take size numbers ++ zeros (size - length numbers)
-  unfolding over
-  short_slot h = rw (cleared, drop_zeros (length numbers) size, take_all size numbers h)
-
-module _ (numbers slot : List ℤ) {clear slot' : List ℤ} (is : length slot ≡ result_size) (c : clear ≡ over (zeros result_size) slot) where
-  pub slot_long : result_size < length numbers → slot' ≡ over (take result_size numbers) clear → slot' ≡ slot_with numbers
-  unfolding slot_with
-  slot_long h e = e ∙ rw c (long_slot result_size numbers slot is h)
-
-  pub slot_short : length numbers ≤ result_size → slot' ≡ over numbers clear → slot' ≡ slot_with numbers
-  unfolding slot_with
-  slot_short h e = e ∙ rw c (short_slot result_size numbers slot is h)
+-- it is copied over zeros
+pub slot_loaded : (numbers slot : List ℤ) (n : ℕ) {clear slot' : List ℤ} → length slot ≡ result_size → n ≡ min (length numbers) result_size →
+    clear ≡ over (zeros result_size) slot → slot' ≡ over (take n numbers) clear → slot' ≡ slot_with numbers
+unfolding over slot_with
+slot_loaded numbers slot n is e c f =
+    let size : length (take n numbers) ≡ n = length-take-le n numbers (omega arith) in
+    let left : result_size - n ≡ result_size - length numbers = omega arith in
+    f ∙ rw (c, over_whole (zeros result_size) slot (rw length_zeros (omega arith)), size, drop_zeros n result_size, left, capped n result_size numbers e)
 
 -- ---- a record of a list
 
@@ -65,9 +61,9 @@ module _ (numbers slot : List ℤ) {clear slot' : List ℤ} (is : length slot �
 behind_shorter : (s : List ℤ) → length (behind_record s) ≤ length s
 unfolding behind_record
 behind_shorter s = go (walk s) where
-  go : (w : Walk) → length (rest_from w s) ≤ length s
-  go (To h) = simp length-drop (omega arith)
-  go Broken = omega arith
+  go : (w : Option Head) → length (rest_from w s) ≤ length s
+  go (Some h) = simp length-drop (omega arith)
+  go None = omega arith
 
 module _ (list : List ℤ) {at next : ℕ} (h : at ≤ length list) (b : Behind behind_record at list next) where
   pub further_on : at ≤ next

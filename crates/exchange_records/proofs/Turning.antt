@@ -1,4 +1,5 @@
 -- Exchanges one after the other, each with its line. Assumes nothing.
+use Rattle.std.specs.Prelude.{Err, Ok, Result, ⊤}
 use mathlib.Core.Path.{◌≡◌, refl, sym, ◌∙◌}
 use mathlib.Core.List.{List, [], ◌++◌, append_assoc}
 use Prim.Native.Nat.{ℕ, ◌+◌, ◌*◌, ◌-◌, ◌%◌, ◌^◌, ◌<◌, ◌≤◌}
@@ -8,12 +9,11 @@ use lib.ListN.{length, get_or, take, drop, length-append, length-take, length-dr
 use lib.Seq.{length-take-le}
 use lib.Signed.{mag}
 use Rattle.rules.specs.declared.Refusal.{Refusal}
-use Rattle.rules.specs.declared.Step.{Step}
-use Rattle.rules.specs.declared.Step.TheVariants.{Done, Refused}
 use Rattle.rules.specs.Limits.{work_size}
+use Rattle.rules.specs.Endings.{says}
 use Rattle.rules.specs.Refusals.{Verdict, given, refused, in_form, number_of}
 use Rattle.cells.proofs.Signed.{held, back}
-use Rattle.rules.specs.Pile.{given_or, exchange_call, exchange_says, Exchanged}
+use Rattle.rules.specs.Pile.{given_or, exchange_call, Exchanged}
 use Rattle.pile.proofs.Going.{two_there}
 use Rattle.record_text.specs.Lines.{refused_text}
 use Rattle.record_text.specs.Fronts.{Front}
@@ -23,14 +23,14 @@ use Rattle.exchange_records.specs.Growing.{step_text, PairsWritten, Grown}
 use Rattle.exchange_records.proofs.Growing.{back_at, grown_none, grown_more, grown_front, front_grown}
 
 -- the line of an answer is that of the verdict
-line_is : (v : Verdict (List ℤ)) (r : Step) → exchange_says r ≡ in_form (λ _. tt) v → step_text r ≡ exchange_text v
-line_is (given new) Done e = refl
-line_is (given new) (Refused why) e = cc
-line_is (refused n) Done e = cc
-line_is (refused n) (Refused why) e = let is : number_of why ≡ n = cc in rw is
+line_is : (v : Verdict (List ℤ)) (r : Result ⊤ Refusal) → says r ≡ in_form (λ _. tt) v → step_text r ≡ exchange_text v
+line_is (given new) (Ok _) e = refl
+line_is (given new) (Err why) e = cc
+line_is (refused n) (Ok _) e = cc
+line_is (refused n) (Err why) e = let is : number_of why ≡ n = cc in rw is
 
 -- the line of a refusal
-pub step_refused : {step : Step} {why : Refusal} {out : List ℕ} {r : ℕ} → step ≡ Refused why → Front (refused_text (number_of why)) out r → Front (step_text step) out r
+pub step_refused : {step : Result ⊤ Refusal} {why : Refusal} {out : List ℕ} {r : ℕ} → step ≡ Err why → Front (refused_text (number_of why)) out r → Front (step_text step) out r
 step_refused e f = rw e f
 
 -- the lines of all exchanges, and the pile behind them
@@ -75,7 +75,7 @@ module _ {pile pairs : List ℤ} {old : List ℕ} {k at : ℕ} {pile' work : Lis
     pub line_room : at + 32 ≤ length now
     line_room = omega (arith, g.short, g.room, g.out_size, second_there)
 
-    module _ (first_low : mag (get_or pairs k (pos 0)) < 2 ^ 31) (second_low : mag (get_or pairs (k + 1) (pos 0)) < 2 ^ 31) {r : Step} {pile'' work'' : List ℤ}
+    module _ (first_low : mag (get_or pairs k (pos 0)) < 2 ^ 31) (second_low : mag (get_or pairs (k + 1) (pos 0)) < 2 ^ 31) {r : Result ⊤ Refusal} {pile'' work'' : List ℤ}
         (pile-same : length pile'' ≡ length pile') (work-same : length work'' ≡ length work)
         (x : Exchanged (exchange_call pile' (held (get_or pairs k (pos 0))) (held (get_or pairs (k + 1) (pos 0))) (length work)) pile' work r pile'' work'')
         {line : List ℕ} {m : ℕ} (line_same : length line ≡ length (take (at + 32 - at) (drop at now))) (f : Front (step_text r) line m) where
@@ -94,7 +94,7 @@ module _ {pile pairs : List ℤ} {old : List ℕ} {k at : ℕ} {pile' work : Lis
           (rw (two_there pairs k second_there) at g.rest)
           ∙ rw (line_is v r asked.answer, asked.pile_is) (sym (append_assoc g.lines (exchange_text v) (exchanges_text (given_or pile' v) (drop (k + 2) pairs))))
 
-      pub turning_turn : Turning pile pairs old (k + 2) (at + m) pile'' work'' (back_at at (at + 32) now line)
+      turning_turn : Turning pile pairs old (k + 2) (at + m) pile'' work'' (back_at at (at + 32) now line)
       turning_turn =
           let few = f.counts.0 in
           record {
@@ -110,6 +110,10 @@ module _ {pile pairs : List ℤ} {old : List ℕ} {k at : ℕ} {pile' work : Lis
             grown = grown_more g.grown (omega arith) line_room line_same f;
             rest = next_rest;
           }
+
+      -- the places of a pair are twice its own and the next one
+      pub turning_next : {j : ℕ} → k + 2 ≡ j → Turning pile pairs old j (at + m) pile'' work'' (back_at at (at + 32) now line)
+      turning_next e = rw e at turning_turn
 
   pub turning_done : length pairs ≤ k → PairsWritten pile pairs pile' now at
   unfolding exchanges_text

@@ -1,8 +1,7 @@
 -- What is written behind a text, and what was loaded and exchanged.
-use Rattle.std.specs.Prelude.{◌≡◌, List, [], ◌∷◌, ◌++◌, ℕ, ◌*◌, ◌≤◌, ℤ, length, take, drop}
+use Rattle.std.specs.Prelude.{◌≡◌, List, [], ◌∷◌, ◌++◌, ℕ, ◌*◌, ◌≤◌, ℤ, length, take, drop, ⊤, Result, Ok, Err}
 use Rattle.io.specs.Counts.{IsPrefixLen}
-use Rattle.rules.specs.declared.Step.{Step}
-use Rattle.rules.specs.declared.Step.TheVariants.{Done, Refused}
+use Rattle.rules.specs.declared.Refusal.{Refusal}
 use Rattle.rules.specs.Refusals.{number_of}
 use Rattle.record_text.specs.Lines.{refused_text}
 use Rattle.record_text.specs.Fronts.{Front}
@@ -16,9 +15,9 @@ pub record PileLoaded (n : ℕ) (list pile : List ℤ) (r : ℕ) : Type 0 where
   pub rest : drop r list ≡ behind_records n list
 
 -- the line of an exchange by its answer
-abbrev pub step_text : Step → List ℕ
-step_text Done = 109 ∷ 97 ∷ 100 ∷ 101 ∷ 10 ∷ []
-step_text (Refused why) = refused_text (number_of why)
+abbrev pub step_text : Result ⊤ Refusal → List ℕ
+step_text (Ok _) = 109 ∷ 97 ∷ 100 ∷ 101 ∷ 10 ∷ []
+step_text (Err why) = refused_text (number_of why)
 
 -- the lines of all exchanges are at the front, and the pile is what they left: its text is the rest
 pub record PairsWritten (pile pairs pile' : List ℤ) (out' : List ℕ) (r : ℕ) : Type 0 where

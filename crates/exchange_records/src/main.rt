@@ -9,44 +9,52 @@ ghost use Rattle.exchange_records.specs.Piles.{slot_with, slot_text, pile_text};
 ghost use Rattle.exchange_records.specs.Exchanges.{exchanges_text, are_pairs, records_text, list_text, answer_text};
 ghost use Rattle.exchange_records.specs.Growing.{PileLoaded, step_text, PairsWritten, Grown};
 
-use cells::Sign;
-use rules::{Refusal, Step};
+use rules::Refusal;
 use std::io::Write;
-use text::Read;
 
 // How many bytes are lent for a line, and for the five lines of a layout.
 const LINE: usize = 32;
 
 const LINES: usize = 32768;
 
+// What a text is answered with: room for its numbers, the pile, the buffer that an exchange is lent, and room for the answer.
+#[derive(Drop)]
+struct Buffers {
+    numbers: [i32; 32768],
+    pile: [i32; 28832],
+    work: [i32; rules::WORK_SIZE],
+    out: [u8; 1048576],
+}
+
+impl Buffers {
+    // The answer to a text.
+    fn answer(&mut self, text: &[u8]) -> &[u8]
+        ensures { result.now ≡ answer_text text.now }
+    {
+        let end = match record_text::read_list(text, &mut self.numbers) {
+            Some(n) => answer_list(
+                &self.numbers[..n],
+                &mut self.pile,
+                &mut self.work,
+                &mut self.out,
+            ),
+            None => record_text::write_refusal(Refusal::Unsound, &mut self.out),
+        };
+        &self.out[..end]
+    }
+}
+
 // Answers standard input on standard output.
 fn main(rt: HostRuntime) -> std::io::Result<()> {
     let mut text = [0u8; 65537];
-    let mut numbers = [0i32; 32768];
-    let mut pile = [0i32; 28832];
-    let mut work = [0i32; rules::WORK_SIZE];
-    let mut out = [0u8; 1048576];
+    let mut buffers = Buffers {
+        numbers: [0; 32768],
+        pile: [0; 28832],
+        work: [0; rules::WORK_SIZE],
+        out: [0; 1048576],
+    };
     let size = record_text::read_full(&mut rt.stdin(), &mut text)?;
-    let end = answer(&text[..size], &mut numbers, &mut pile, &mut work, &mut out);
-    rt.stdout().write_all(&out[..end])
-}
-
-// The answer to a text goes to the front of out; answers how many bytes it has.
-fn answer(
-    text: &[u8],
-    numbers: &mut [i32],
-    pile: &mut [i32],
-    work: &mut [i32],
-    out: &mut [u8],
-) -> usize
-    requires value { 32768 ≡ length numbers.old }
-    requires pile_len { (length pile.old ≡ list_limit * result_size) × (length work.old ≡ work_size) × (1048576 ≤ length out.old) }
-    ensures { Front (answer_text text.now) out.new result }
-{
-    match record_text::read_list(text, numbers) {
-        Read::Numbers(n) => answer_list(&numbers[..n], pile, work, out),
-        Read::Other => record_text::write_refusal(Refusal::Unsound, out),
-    }
+    rt.stdout().write_all(buffers.answer(&text[..size]))
 }
 
 // The answer to a list of numbers goes to the front of out; answers how many bytes it has.
@@ -58,7 +66,7 @@ fn answer_list(list: &[i32], pile: &mut [i32], work: &mut [i32], out: &mut [u8])
     if list.len() == 0 {
         return record_text::write_refusal(Refusal::Unsound, out);
     }
-    let Sign::Natural(n) = cells::sign_at(list, 0) else {
+    let Some(n) = cells::sign_at(list, 0) else {
         return record_text::write_refusal(Refusal::OverCount, out);
     };
     if rules::LIST_LIMIT < n {
@@ -93,12 +101,9 @@ fn load_slot(numbers: &[i32], slot: &mut [i32])
     requires { length slot.old ≡ result_size }
     ensures { slot.new ≡ slot_with numbers.now }
 {
+    let n = numbers.len().min(rules::RESULT_SIZE);
     cells::clear(slot, rules::RESULT_SIZE);
-    if rules::RESULT_SIZE < numbers.len() {
-        cells::copy(&numbers[..rules::RESULT_SIZE], slot);
-        return;
-    }
-    cells::copy(numbers, slot);
+    cells::copy(&numbers[..n], slot);
 }
 
 // The first n records of a list go to the slots of a pile, one to each; answers where the rest of the list begins.
@@ -107,14 +112,12 @@ fn load_pile(list: &[i32], n: usize, pile: &mut [i32]) -> usize
     ensures { PileLoaded n list.now pile.new result }
 {
     let mut at = 0;
-    let mut i = 0;
-    while i < n {
+    for i in 0..n {
         let next = lists::behind_record(list, at);
         let slot = i * rules::RESULT_SIZE;
         let end = slot + rules::RESULT_SIZE;
         load_slot(&list[at..next], &mut pile[slot..end]);
         at = next;
-        i += 1;
     }
     at
 }
@@ -127,8 +130,8 @@ fn are_pairs(rest: &[i32]) -> bool
         return false;
     }
     match cells::sign_at(rest, 0) {
-        Sign::Natural(n) => rest.len() - 1 == 2 * n,
-        Sign::Negative => false,
+        Some(n) => rest.len() - 1 == 2 * n,
+        None => false,
     }
 }
 
@@ -149,24 +152,22 @@ fn exchange_pairs(pairs: &[i32], pile: &mut [i32], work: &mut [i32], out: &mut [
     ensures { PairsWritten pile.old pairs.now pile.new out.new result }
 {
     let mut at = 0;
-    let mut k = 0;
-    while k < pairs.len() {
-        let step = layout::exchange(pile, pairs[k], pairs[k + 1], work);
+    for k in 0..pairs.len() / 2 {
+        let step = layout::exchange(pile, pairs[2 * k], pairs[2 * k + 1], work);
         let end = at + LINE;
         at += write_step(step, &mut out[at..end]);
-        k += 2;
     }
     at
 }
 
 // The line of an exchange goes to the front of out; answers how many bytes it has.
-fn write_step(step: Step, out: &mut [u8]) -> usize
+fn write_step(step: Result<(), Refusal>, out: &mut [u8]) -> usize
     requires { 32 ≤ length out.old }
     ensures { Front (step_text step) out.new result }
 {
     match step {
-        Step::Done => record_text::write_bytes(b"made\n", out),
-        Step::Refused(why) => record_text::write_refusal(why, out),
+        Ok(()) => record_text::write_bytes(b"made\n", out),
+        Err(why) => record_text::write_refusal(why, out),
     }
 }
 
@@ -177,13 +178,11 @@ fn write_pile(pile: &[i32], out: &mut [u8], at: usize) -> usize
 {
     let count = pile.len() / rules::RESULT_SIZE;
     let mut next = at;
-    let mut i = 0;
-    while i < count {
+    for i in 0..count {
         let slot = i * rules::RESULT_SIZE;
         let slot_end = slot + rules::RESULT_SIZE;
         let end = next + LINES;
         next += write_slot(&pile[slot..slot_end], &mut out[next..end]);
-        i += 1;
     }
     next
 }

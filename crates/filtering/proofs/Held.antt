@@ -1,4 +1,5 @@
 -- `is_row`, `on_diagonal` and `is_held`: an index is held by the kind of the layout. Assumes nothing.
+use Rattle.std.specs.Prelude.{Err, Ok, Result}
 use mathlib.Core.Path.{◌≡◌, sym, ◌∙◌}
 use mathlib.Core.Bool.{Bool, true, false}
 use mathlib.Core.List.{List}
@@ -16,8 +17,6 @@ use Rattle.rules.specs.Layout.{alike}
 use Rattle.rules.specs.Dependencies.{on_diagonal, held}
 use Rattle.rules.proofs.Sets.{in_among, not_in_among}
 use Rattle.cells.specs.View.{view}
-use Rattle.tables.specs.declared.Spot.{Spot}
-use Rattle.tables.specs.declared.Spot.TheVariants.{At, Before}
 use Rattle.tables.specs.Rows.{row_at, rows_at, HasRow, HasRows, SpotIs}
 use Rattle.tables.specs.Tables.{table_at, Only}
 use Rattle.tables.proofs.Rows.{row_length, row_number}
@@ -57,11 +56,11 @@ module _ {at p : ℕ} {s : List ℤ} (a : HeldAsked at p s) where
         let first : at + 7 + 1 ≡ at + 8 = omega arith in
         (rw (first, whole) at (fits_rows a.filters.rows.fits n-is), (rw rows_are a.filters.rows.increasing, rw r-is a.index))
 
-    module _ {o : Spot} (spot : SpotIs (row_at p r s) (rows_at (at + 8) r n s) o) where
-      pub row_found : {k : ℕ} → o ≡ At k → true ≡ among index (filter_at at s).rows
+    module _ {o : (Result ℕ ℕ)} (spot : SpotIs (row_at p r s) (rows_at (at + 8) r n s) o) where
+      pub row_found : {k : ℕ} → o ≡ Ok k → true ≡ among index (filter_at at s).rows
       row_found e = sym (in_among (rw (rows_are, r-is) at (found_in (rw e at spot))))
 
-      pub row_missed : {k : ℕ} → o ≡ Before k → false ≡ among index (filter_at at s).rows
+      pub row_missed : {k : ℕ} → o ≡ Err k → false ≡ among index (filter_at at s).rows
       row_missed e =
           let none : In (row_at p r s) (rows_at (at + 8) r n s) → ⊥ = between_not_in (rw e at spot) ask_search.1.0 in
           sym (not_in_among index (filter_at at s).rows (rw (rows_are, r-is) at none))

@@ -6,18 +6,22 @@ use mathlib.Core.List.{List, [], ◌∷◌}
 use mathlib.Core.Logic.{◌⊎◌, inl, inr, ⊎_elim}
 use Prim.Native.Nat.{ℕ, zero, suc, ◌+◌, ◌*◌, ◌-◌, ◌<◌, ◌≤◌}
 use native.Mathlib.Omega.{arith}
+use borrow.Author.Tests.{ne_eqb}
 use lib.Dec.{ltb}
 use lib.IntN.{ℤ, pos}
 use lib.ListN.{length, get_or, set, take, length-append}
-use Rattle.rules.specs.declared.Ordering.{Ordering}
-use Rattle.rules.specs.declared.Ordering.TheVariants.{Less, Equal, Greater}
+use Rattle.std.specs.declared.cmp.Ordering.{Ordering}
+use Rattle.std.specs.declared.cmp.Ordering.TheVariants.{Less, Equal, Greater}
 use Rattle.rules.specs.Buffers.{part, put}
 use Rattle.rules.specs.Lists.{any, keep}
 use Rattle.rules.specs.RowsInOrder.{by_first, cmp_rows, among, Each, Increasing}
+use Rattle.rules.specs.declared.Kind.TheVariants.{Sparse}
+use Rattle.rules.specs.Layout.{kind_of}
 use Rattle.rules.specs.Dependencies.{index_of, held, filter_deps}
 use Rattle.rules.proofs.Order.{cmp_equal, cmp_greater_flip, cmp_less_trans, less_not_equal, less_not_greater, greater_not_equal, less_not_same, Compared, less, equal, greater, compare}
 use Rattle.rules.proofs.Sets.{in_among, head_least, next_increasing, not_in_among, each_cons}
 use Rattle.rules.proofs.Before.{keep_none}
+use Rattle.rules.proofs.KindRead.{sparse_not_dense, sparse_not_diagonal}
 use Rattle.rules.proofs.Keeping.{keep_pass, keep_fail, keep_length, keep_only, keep_increasing}
 use Rattle.cells.specs.View.{view}
 use Rattle.tables.specs.Rows.{row_at, rows_at, HasRow}
@@ -92,13 +96,13 @@ pub record Listing (x y to r w p n q m k : ℕ) (s t : List ℤ) : Type 0 where
   pub walk : Walk (fronts r) x y to w r p n q m k s t
 
 module _ {x y to r w p n q m k : ℕ} {s t : List ℤ} (g : Listing x y to r w p n q m k s t) where
-  module _ (some : 0 < n) (more : m ≡ 0 → ⊥) where
+  module _ (some : 0 < n) (more : 0 < m) where
     -- the next entry and the next row
     pub entry_row : HasRow p w t
     entry_row = first_row g.walk some
 
     pub listed_row : HasRow q r t
-    listed_row = second_row g.walk more
+    listed_row = second_row g.walk (λ e. omega arith)
 
     pub index_row : HasRow p r t
     index_row = has_front entry_row g.upto
@@ -152,18 +156,19 @@ module _ {x y to r w p n q m k : ℕ} {s t : List ℤ} (g : Listing x y to r w p
         moved f = record { upto = g.upto; walk = move g.walk entry_moves few f (left_rest g.walk.first some) g.walk.second one }
 
   -- nothing is left that could be moved
-  pub ended : {u : List ℤ} → u ≡ set t to (pos k) → (n ≤ 0) ⊎ (m ≡ 0) → (table_at to w u ≡ fronts r (table_at x w s) (table_at y r s)) × Only to (room_end to w) s u
+  pub ended : {u : List ℤ} → u ≡ set t to (pos k) → (n ≤ 0) ⊎ (m ≤ 0) → (table_at to w u ≡ fronts r (table_at x w s) (table_at y r s)) × Only to (room_end to w) s u
   ended stored d =
       ⊎_elim
       (λ h. let a : n ≡ 0 = omega arith in counted g.walk stored (rw (a, rows_none p w t) (unfold keep in refl)))
       (λ h.
-      let none : rows_at q r m t ≡ [] = rw h (rows_none q r t) in
+      let b : m ≡ 0 = omega arith in
+      let none : rows_at q r m t ≡ [] = rw b (rows_none q r t) in
       counted g.walk stored (ap (λ (b : List (List ℕ)). fronts r (rows_at p w n t) b) none ∙ fronts_none r (rows_at p w n t)))
       d
 
 -- ---- a layout in a part
 
-module _ {at from to r w : ℕ} {s : List ℤ} (a : KeepAsked at from to s) (plain : (kind_at at s ≡ 2) × (dense_at at s ≡ 0)) (r-is : r ≡ rank_at at s) (w-is : w ≡ r + 1) where
+module _ {at from to r w : ℕ} {s : List ℤ} (a : KeepAsked at from to s) (plain : (kind_of (kind_at at s) ≡ Sparse) × (dense_at at s ≡ 0)) (r-is : r ≡ rank_at at s) (w-is : w ≡ r + 1) where
   wide : w ≡ rank_at at s + 1
   wide = omega arith
 
@@ -191,7 +196,7 @@ module _ {at from to r w : ℕ} {s : List ℤ} (a : KeepAsked at from to s) (pla
   unfolding filter_deps held layout_at
   listed = keep_same (λ d. among (take r d) (table_at (at + 7) r s)) (λ d. held (filter_at at s) (index_of d)) (table_at from w s) (λ d m.
       let long : length d - 1 ≡ r = omega (arith, table_wide (entries a wide).fits d m) in
-      rw (plain.0, whole, long))
+      rw (ne_eqb _ 0 (sparse_not_dense refl plain.0), ne_eqb _ 1 (sparse_not_diagonal refl plain.0), whole, long))
 
   -- all is
   pub kept : {u : List ℤ} → (table_at to w u ≡ fronts r (table_at from w s) (table_at (at + 7) r s)) × Only to (room_end to w) s u → Kept at from to s u

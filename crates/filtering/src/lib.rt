@@ -3,14 +3,15 @@
 
 ghost use Rattle.std.specs.Prelude.{◌≡◌};
 ghost use Rattle.rules.specs.RowsInOrder.{among};
+ghost use Rattle.rules.specs.Layout.{kind_of};
 ghost use Rattle.rules.specs.Dependencies.{on_diagonal, held, index_of};
 ghost use Rattle.tables.specs.Rows.{row_at};
 ghost use Rattle.tables.specs.Tables.{Taken};
 ghost use Rattle.parts.specs.Parts.{kind_at, dense_at, rank_at};
 ghost use Rattle.filtering.specs.Filtering.{filter_at, HeldAsked, DiagonalAsked, taken_if, EntryAsked, KeepAsked, Kept};
 
-use rules::Ordering;
-use tables::Spot;
+use rules::Kind;
+use std::cmp::Ordering;
 
 // Whether the index at p is a row of the layout at a place: where axes are dense, no row is as long as an index.
 fn is_row(s: &[i32], at: usize, p: usize) -> bool
@@ -23,8 +24,8 @@ fn is_row(s: &[i32], at: usize, p: usize) -> bool
     let n = cells::get(s, at + parts::ROWS);
     let rank = cells::get(s, at + parts::RANK);
     match tables::search(s, at + parts::FIRST_ROW, n, rank, s, p) {
-        Spot::At(_) => true,
-        Spot::Before(_) => false,
+        Ok(_) => true,
+        Err(_) => false,
     }
 }
 
@@ -34,10 +35,7 @@ fn on_diagonal(s: &[i32], at: usize, p: usize) -> bool
     ensures { result ≡ on_diagonal (filter_at at s.now) (row_at p (rank_at at s.now) s.now) }
 {
     let rank = cells::get(s, at + parts::RANK);
-    if records::alike(s, p, rank) {
-        return cells::get(s, p) < cells::get(s, at + parts::EXTENTS);
-    }
-    false
+    records::alike(s, p, rank) && cells::get(s, p) < cells::get(s, at + parts::EXTENTS)
 }
 
 // Whether the layout at a place holds the index at p.
@@ -45,15 +43,17 @@ pub fn is_held(s: &[i32], at: usize, p: usize) -> bool
     requires { HeldAsked at p s.now }
     ensures { result ≡ held (filter_at at s.now) (row_at p (rank_at at s.now) s.now) }
 {
-    let kind = cells::get(s, at);
-    if kind == 0 {
-        let rank = cells::get(s, at + parts::RANK);
-        return axes::row_below(s, p, s, at + parts::EXTENTS, rank);
+    match records::kind_at(s, at) {
+        Kind::Dense => axes::row_below(
+            s,
+            p,
+            s,
+            at + parts::EXTENTS,
+            cells::get(s, at + parts::RANK),
+        ),
+        Kind::Diagonal => on_diagonal(s, at, p),
+        Kind::Sparse => is_row(s, at, p),
     }
-    if kind == 1 {
-        return on_diagonal(s, at, p);
-    }
-    is_row(s, at, p)
 }
 
 // The entry at p is put into a table of entries of width w, if the layout at a place holds its index; false where it would be the 129th.
@@ -75,17 +75,15 @@ fn keep_each(s: &mut [i32], at: usize, from: usize, to: usize)
     let w = cells::get(s, at + parts::RANK) + 1;
     let n = cells::get(s, from);
     cells::store(s, to, 0);
-    let mut i = 0;
-    while i < n {
+    for i in 0..n {
         put_held(s, at, from + 1 + i * w, to, w);
-        i += 1;
     }
 }
 
 // The same of a sparse layout without dense axes, in one walk over the entries and its rows, which both increase.
 fn keep_listed(s: &mut [i32], at: usize, from: usize, to: usize)
     requires keep_asked { KeepAsked at from to s.old }
-    requires s_value { (kind_at at s.old ≡ 2) × (dense_at at s.old ≡ 0) }
+    requires s_value { (kind_of (kind_at at s.old) ≡ Kind.Sparse) × (dense_at at s.old ≡ 0) }
     ensures { Kept at from to s.old s.new }
 {
     let rank = cells::get(s, at + parts::RANK);
@@ -95,10 +93,8 @@ fn keep_listed(s: &mut [i32], at: usize, from: usize, to: usize)
     let mut p = from + 1;
     let mut q = at + parts::FIRST_ROW;
     let mut k = 0;
-    while 0 < n {
-        if m == 0 {
-            break;
-        }
+    // A turn moves on in the entries, in the rows or in both, so a `for` over either does not walk them.
+    while 0 < n && 0 < m {
         match tables::cmp_rows(s, p, s, q, rank) {
             Ordering::Less => {
                 p += w;
@@ -124,11 +120,9 @@ pub fn keep_held(s: &mut [i32], at: usize, from: usize, to: usize)
     requires { KeepAsked at from to s.old }
     ensures { Kept at from to s.old s.new }
 {
-    if cells::get(s, at) == 2 {
-        if cells::get(s, at + parts::DENSE) == 0 {
-            keep_listed(s, at, from, to);
-            return;
-        }
+    if matches!(records::kind_at(s, at), Kind::Sparse) && cells::get(s, at + parts::DENSE) == 0 {
+        keep_listed(s, at, from, to);
+    } else {
+        keep_each(s, at, from, to);
     }
-    keep_each(s, at, from, to);
 }

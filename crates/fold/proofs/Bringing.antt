@@ -1,4 +1,5 @@
 -- Judged records: whether each may be stretched, and that it is brought as the rule says. Assumes nothing.
+use Rattle.std.specs.Prelude.{Err, None, Ok, Option, Result, Some, ⊤}
 use mathlib.Core.Path.{◌≡◌, refl, sym, ap, ◌∙◌}
 use mathlib.Core.Bool.{Bool, true, false, ◌&&◌}
 use mathlib.Core.List.{List, [], ◌∷◌, map}
@@ -11,10 +12,6 @@ use lib.Seq.{drop-cons}
 use Rattle.rules.specs.declared.Head.{Head}
 use Rattle.rules.specs.declared.Mode.{Mode}
 use Rattle.rules.specs.declared.Refusal.{Refusal}
-use Rattle.rules.specs.declared.Step.{Step}
-use Rattle.rules.specs.declared.Step.TheVariants.{Done, Refused}
-use Rattle.rules.specs.declared.Walk.{Walk}
-use Rattle.rules.specs.declared.Walk.TheVariants.{To, Broken}
 use Rattle.rules.specs.Lists.{same}
 use Rattle.rules.specs.Refusals.{Verdict, given, refused, ◌then◌}
 use Rattle.rules.specs.RowsInOrder.{increasing}
@@ -44,12 +41,12 @@ use Rattle.rules.proofs.Folding.{given_stretched}
 
 -- ---- the head of a judged record
 
-module _ {s : List ℤ} (j : JudgedRecord s) {r : Walk} (e : r ≡ walk s) where
-  pub judged_head : {h : Head} → r ≡ To h → SoundRecord h s
+module _ {s : List ℤ} (j : JudgedRecord s) {r : (Option Head)} (e : r ≡ walk s) where
+  pub judged_head : {h : Head} → r ≡ Some h → SoundRecord h s
   judged_head {h} f = record { walked = sym e ∙ f; judged = j.judged; readable = j.readable h (sym e ∙ f) }
 
   -- it has one
-  pub judged_walks : r ≡ Broken → ⊥
+  pub judged_walks : r ≡ None → ⊥
   judged_walks f = true_not_false j.judged (broken_unsound s e f)
 
 -- ---- `has_shape` and `is_unchanged`
@@ -83,17 +80,17 @@ pub ruleset shape_laws = (rank_differs, rank_same, both_told, first_told)
 -- ---- a step
 
 -- what a step says it tells
-pub says_told : {v : Verdict Layout} {at : ℕ} {s : List ℤ} (step : Step) → Says v at s step → told step ≡ whether v
+pub says_told : {v : Verdict Layout} {at : ℕ} {s : List ℤ} (step : Result ⊤ Refusal) → Says v at s step → told step ≡ whether v
 says_told {at} {s} step d = by step ∙ ap whether d.is
   where
-    by : (x : Step) → told x ≡ whether (step_says x (layout_at at s))
-    by Done = refl
-    by (Refused why) = refl
+    by : (x : Result ⊤ Refusal) → told x ≡ whether (step_says x (layout_at at s))
+    by (Ok tt) = refl
+    by (Err why) = refl
 
 -- where the verdict is given, the layout is there
-pub says_brought : {v : Verdict Layout} {l : Layout} {s : List ℤ} (step : Step) → Says v 0 s step → v ≡ given l → Brought l s
-says_brought Done d e = record { layout = let f = d.is ∙ e in cc; holds = d.holds refl }
-says_brought (Refused why) d e = absurd (never (d.is ∙ e))
+pub says_brought : {v : Verdict Layout} {l : Layout} {s : List ℤ} (step : Result ⊤ Refusal) → Says v 0 s step → v ≡ given l → Brought l s
+says_brought (Ok tt) d e = record { layout = let f = d.is ∙ e in cc; holds = d.holds refl }
+says_brought (Err why) d e = absurd (never (d.is ∙ e))
 
 -- ---- `judge` and `bring`
 
@@ -159,7 +156,7 @@ module _ {shape : Shape} {n : ℕ} {places : List ℕ} {s : List ℤ} (a : AllAs
     at_layout : layout_in (take (length s - get_or places i 0) (drop (get_or places i 0) s)) ≡ get_or all i (layout_in [])
     at_layout = ap layout_in (lent_at a.inside h) ∙ sym (get_or-map layout_in (standing n places s) i [])
 
-    module _ {mode : Mode} {part₀ part : List ℤ} (p : JudgedTo mode (extents_of shape) n i all part₀ part) (step : Step) (e : told step ≡ whether (stretching mode shape (take (length s - get_or places i 0) (drop (get_or places i 0) s)))) where
+    module _ {mode : Mode} {part₀ part : List ℤ} (p : JudgedTo mode (extents_of shape) n i all part₀ part) (step : Result ⊤ Refusal) (e : told step ≡ whether (stretching mode shape (take (length s - get_or places i 0) (drop (get_or places i 0) s)))) where
       next : whether (stretch_all mode (extents_of shape) all) ≡ (broadcast_to_shape mode (get_or all i (layout_in [])) (extents_of shape) then λ _. whether (stretch_all mode (extents_of shape) (drop (i + 1) all)))
       unfolding stretch_all
       next = let inside : i < length all = omega (arith, p.size) in p.eq ∙ rw (add-one, drop-cons all i (layout_in []) inside) (whether_cons (broadcast_to_shape mode (get_or all i (layout_in [])) (extents_of shape)) (stretch_all mode (extents_of shape) (drop (suc i) all)))
@@ -168,15 +165,15 @@ module _ {shape : Shape} {n : ℕ} {places : List ℕ} {s : List ℤ} (a : AllAs
       here = rw (← at_layout) (sym e)
 
       -- one may be stretched
-      pub judged_turn : {next-part : List ℤ} → step ≡ Done → length next-part ≡ length part → JudgedTo mode (extents_of shape) n (i + 1) all part₀ next-part
+      pub judged_turn : {next-part : List ℤ} → step ≡ Ok tt → length next-part ≡ length part → JudgedTo mode (extents_of shape) n (i + 1) all part₀ next-part
       judged_turn f l = record { same_size = l ∙ p.same_size; upto = omega arith; size = p.size; eq = next ∙ told_then (broadcast_to_shape mode (get_or all i (layout_in [])) (extents_of shape)) (whether (stretch_all mode (extents_of shape) (drop (i + 1) all))) (here ∙ ap told f) }
 
       -- one may not
-      pub judged_stop : {why : Refusal} → step ≡ Refused why → told (Refused why) ≡ whether (stretch_all mode (extents_of shape) all)
+      pub judged_stop : {why : Refusal} → step ≡ Err why → told (Err why) ≡ whether (stretch_all mode (extents_of shape) all)
       judged_stop f = sym (next ∙ told_refused (broadcast_to_shape mode (get_or all i (layout_in [])) (extents_of shape)) (whether (stretch_all mode (extents_of shape) (drop (i + 1) all))) (here ∙ ap told f))
 
   -- all may
-  pub judged_done : {mode : Mode} {i : ℕ} {part₀ part : List ℤ} → JudgedTo mode (extents_of shape) n i all part₀ part → n ≤ i → told Done ≡ whether (stretch_all mode (extents_of shape) all)
+  pub judged_done : {mode : Mode} {i : ℕ} {part₀ part : List ℤ} → JudgedTo mode (extents_of shape) n i all part₀ part → n ≤ i → told (Ok tt) ≡ whether (stretch_all mode (extents_of shape) all)
   unfolding stretch_all
   judged_done {i = i} p h = sym (p.eq ∙ rw (drop_of_length-le all {i = i} (omega (arith, p.size))))
 
@@ -207,7 +204,7 @@ all_given mode shape (l ∷ layouts) e = by (broadcast_to_shape mode l shape) re
         at r f d (suc i) h = r d i (omega arith)
     by (refused n) f rest g = absurd (never (sym g))
 
-module _ {shape : Shape} {n : ℕ} {places : List ℕ} {s : List ℤ} (a : AllAsked shape n places s) (mode : Mode) (e : told Done ≡ whether (stretch_all mode (extents_of shape) (layouts_at n places s))) where
+module _ {shape : Shape} {n : ℕ} {places : List ℕ} {s : List ℤ} (a : AllAsked shape n places s) (mode : Mode) (e : told (Ok tt) ≡ whether (stretch_all mode (extents_of shape) (layouts_at n places s))) where
   pub all_stretched_lem : stretch_all mode (extents_of shape) (layouts_at n places s) ≡ given (all_stretched mode shape n places s)
   all_stretched_lem = (all_given mode (extents_of shape) (layouts_at n places s) e).all_is
 

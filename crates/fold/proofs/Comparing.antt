@@ -1,22 +1,26 @@
 -- Whether two layouts of a window are the same, and whether one divides by a sparse one. Assumes nothing.
 use mathlib.Core.Path.{◌≡◌, refl, sym, ap, ◌∙◌}
-use mathlib.Core.Bool.{Bool, true, false, not, ◌&&◌}
+use mathlib.Core.Bool.{Bool, true, false, not, ◌&&◌, ◌||◌}
 use mathlib.Core.List.{List, ◌∷◌}
 use Prim.Native.Nat.{ℕ, suc, ◌+◌, ◌-◌, ◌*◌, ◌≤◌}
 use native.Mathlib.Nat.{mul-le-mul}
 use native.Mathlib.Omega.{arith}
-use borrow.Author.Tests.{eqb-true, eqb-false, eq-eqb, ne_eqb, not-true, not-false}
+use borrow.Author.Tests.{eqb-true, eqb-false, eq-eqb, ne_eqb}
 use lib.Dec.{eqb}
 use lib.IntN.{ℤ}
 use lib.ListN.{length, get_or, take, drop}
 use mir.Syntax.{w64}
 use mir.Val.{Fits}
-use Rattle.rules.specs.declared.Rule.TheVariants.{Divide}
 use Rattle.rules.specs.Lists.{same, same_rows, gather}
 use Rattle.rules.specs.Buffers.{part}
 use Rattle.rules.specs.Record.{rows_of}
 use Rattle.rules.specs.CountsAndForms.{eq_nonzeros}
+use Rattle.rules.specs.declared.Kind.{Kind}
+use Rattle.rules.specs.declared.Kind.TheVariants.{Dense, Sparse}
+use Rattle.rules.specs.declared.Rule.TheVariants.{Divide}
+use Rattle.rules.specs.Layout.{kind_of}
 use Rattle.rules.specs.Broadcast.{divides_by_sparse}
+use Rattle.rules.proofs.KindRead.{dense_number, sparse_number, not_dense, not_sparse}
 use Rattle.rules.proofs.Same.{both_true, decided, same_true, same_refl, same_rows_true, same_rows_refl, lengths_differ}
 use Rattle.rules.proofs.RowsRead.{rows_length, rows_cut, gather_rows}
 use Rattle.cells.specs.View.{view}
@@ -25,7 +29,7 @@ use Rattle.tables.specs.Rows.{rows_at}
 use Rattle.tables.specs.Tables.{table_at}
 use Rattle.parts.specs.Parts.{left, right, kind_at, dense_at, rank_at, width_at, layout_at, Window}
 use Rattle.parts.proofs.Packing.{part_cons}
-use Rattle.parts.proofs.Holds.{rank_most, shape_length, dense_most, rows_few}
+use Rattle.parts.proofs.Holds.{kind_most, rank_most, shape_length, dense_most, rows_few}
 use Rattle.fold.specs.Folded.{same_heads}
 
 -- ---- numbers and rows
@@ -97,11 +101,11 @@ module _ {s : List ℤ} (o : Window s) where
         (shape_length o.first) (shape_length o.second) (λ g. rw g))
 
   -- the heads differ
-  pub heads_differ : {t : Bool} → t ≡ same_heads (layout_at left s) (layout_at right s) → not t ≡ true → false ≡ eq_nonzeros (layout_at left s) (layout_at right s)
+  pub heads_differ : {t : Bool} → t ≡ same_heads (layout_at left s) (layout_at right s) → t ≡ false → false ≡ eq_nonzeros (layout_at left s) (layout_at right s)
   unfolding eq_nonzeros
-  heads_differ {t} e f = rw (sym e ∙ not-true t f)
+  heads_differ {t} e f = rw (sym e ∙ f)
 
-  module _ {t : Bool} (e : t ≡ same_heads (layout_at left s) (layout_at right s)) (f : not t ≡ false) {r d n : ℕ} (r-is : r ≡ rank_at left s) (d-is : d ≡ dense_at left s) (n-is : n ≡ get_or (view s) 7 0) where
+  module _ {t : Bool} (e : t ≡ same_heads (layout_at left s) (layout_at right s)) (f : t ≡ true) {r d n : ℕ} (r-is : r ≡ rank_at left s) (d-is : d ≡ dense_at left s) (n-is : n ≡ get_or (view s) 7 0) where
     pub dense_below : d ≤ r
     dense_below = omega (arith, dense_most o.first)
 
@@ -122,7 +126,7 @@ module _ {s : List ℤ} (o : Window s) where
     rows_in = let h = numbers_most in (omega (arith, o.room), omega (arith, o.room))
 
     heads : same_heads (layout_at left s) (layout_at right s) ≡ true
-    heads = sym e ∙ not-false t f
+    heads = sym e ∙ f
 
     widths : width_at right s ≡ width_at left s
     unfolding layout_at
@@ -150,20 +154,36 @@ module _ {s : List ℤ} (o : Window s) where
         let big = size in
         g ∙ rw (heads, table_numbers 7 (omega arith), table_numbers 1809 (omega arith)) tables_compared
 
--- ---- `sparse_differs`
+-- ---- the kinds
 
-module _ (s : List ℤ) {k : ℕ} (e : k ≡ get_or (view s) left 0) where
-  pub left_not_sparse : (k ≡ 2 → ⊥) → false ≡ divides_by_sparse Divide (layout_at left s) (layout_at right s)
+module _ (s : List ℤ) {k : Kind} (e : k ≡ kind_of (kind_at left s)) where
+  left_other : (k ≡ Sparse → ⊥) → eqb (layout_at left s).kind 2 ≡ false
   unfolding layout_at
-  left_not_sparse n = rw (ne_eqb (get_or (view s) left 0) 2 (λ z. n (e ∙ z)))
+  left_other n = ne_eqb _ 2 (not_sparse e n)
 
-  module _ (f : k ≡ 2) where
-    left_sparse : eqb (get_or (view s) left 0) 2 ≡ true
-    left_sparse = eq-eqb (get_or (view s) left 0) 2 (sym e ∙ f)
+  -- the left layout is not sparse
+  pub divides_other : (k ≡ Sparse → ⊥) → false ≡ divides_by_sparse Divide (layout_at left s) (layout_at right s)
+  divides_other n = rw (left_other n)
 
-    pub right_dense : {m : ℕ} → m ≡ get_or (view s) right 0 → m ≡ 0 → true ≡ divides_by_sparse Divide (layout_at left s) (layout_at right s)
+  module _ (h : Window s) (z : k ≡ Sparse) {m : Kind} (f : m ≡ kind_of (kind_at right s)) where
+    left_sparse : eqb (layout_at left s).kind 2 ≡ true
     unfolding layout_at
-    right_dense g h = rw (left_sparse, eq-eqb (get_or (view s) right 0) 0 (sym g ∙ h))
+    left_sparse = eq-eqb _ 2 (sparse_number e z (kind_most h.first))
 
-    pub right_not_dense : {m : ℕ} → m ≡ get_or (view s) right 0 → (m ≡ 0 → ⊥) → {t : Bool} → t ≡ eq_nonzeros (layout_at left s) (layout_at right s) → not t ≡ divides_by_sparse Divide (layout_at left s) (layout_at right s)
-    right_not_dense g h {t} i = rw (← i) (unfold layout_at in rw (left_sparse, ne_eqb (get_or (view s) right 0) 0 (λ z. h (g ∙ z))))
+    right_dense : m ≡ Dense → eqb (layout_at right s).kind 0 ≡ true
+    unfolding layout_at
+    right_dense g = eq-eqb _ 0 (dense_number f g)
+
+    right_other : (m ≡ Dense → ⊥) → eqb (layout_at right s).kind 0 ≡ false
+    unfolding layout_at
+    right_other g = ne_eqb _ 0 (not_dense f g)
+
+    -- it is, and the right one is dense
+    pub divides_dense : m ≡ Dense → true ≡ divides_by_sparse Divide (layout_at left s) (layout_at right s)
+    divides_dense g = rw (left_sparse, right_dense g)
+
+    -- or is not
+    pub divides_told : (m ≡ Dense → ⊥) → {r : Bool} → r ≡ eq_nonzeros (layout_at left s) (layout_at right s) → not r ≡ divides_by_sparse Divide (layout_at left s) (layout_at right s)
+    divides_told g t = rw (left_sparse, right_other g, t)
+
+pub ruleset kind_laws = (divides_other, divides_dense, divides_told)

@@ -1,17 +1,17 @@
 -- What a folded layout becomes in its part: kind, D and the count of rows stored anew. Assumes nothing.
+use Rattle.std.specs.Prelude.{Err, Ok}
 use mathlib.Core.Path.{◌≡◌, sym, ap, ◌∙◌}
-use mathlib.Core.Bool.{Bool, true, false, not}
+use mathlib.Core.Bool.{Bool, true, false}
 use mathlib.Core.List.{List, []}
 use mathlib.Core.Logic.{inl, inr}
 use Prim.Native.Nat.{ℕ, ◌+◌, ◌-◌, ◌*◌, ◌^◌, ◌<◌, ◌≤◌}
 use native.Mathlib.Nat.{mul-le-mul}
 use native.Mathlib.Omega.{arith}
-use borrow.Author.Tests.{eq-eqb, ne_eqb, le-leb, not-true, not-false}
+use borrow.Author.Tests.{eq-eqb, ne_eqb, le-leb}
 use lib.Dec.{eqb}
 use lib.IntN.{ℤ, pos}
 use lib.ListN.{length, get_or, set}
 use Rattle.rules.specs.declared.Refusal.TheVariants.{MadeUnsound}
-use Rattle.rules.specs.declared.Step.TheVariants.{Done, Refused}
 use Rattle.rules.specs.Limits.{product_limit}
 use Rattle.rules.specs.Lists.{all, product}
 use Rattle.rules.specs.Buffers.{part}
@@ -112,7 +112,7 @@ module _ {s : List ℤ} (h : Holds 0 s) where
 
   module _ {k : ℕ} (k-is : k ≡ get_or (view s) 0 0) where
     -- a layout that is not sparse stays
-    pub stays_other : (k ≡ 2 → ⊥) → Says (end_of_broadcast (layout_at 0 s)) 0 s Done
+    pub stays_other : (k ≡ 2 → ⊥) → Says (end_of_broadcast (layout_at 0 s)) 0 s (Ok tt)
     stays_other n = record { is = sym (end_other (layout_at 0 s) (unfold layout_at in ne_eqb (get_or (view s) 0 0) 2 (λ e. n (k-is ∙ e)))); holds = λ _. h }
 
     module _ (e : k ≡ 2) {r n m : ℕ} (r-is : r ≡ get_or (view s) 2 0) (n-is : n ≡ get_or (view s) 7 0) (m-is : m ≡ product (row_at 3 r s)) where
@@ -125,7 +125,7 @@ module _ {s : List ℤ} (h : Holds 0 s) where
       counted = rw (table_length 7 (width_at 0 s) s, n-is, m-is, r-is)
 
       -- one that is full becomes dense
-      pub becomes_dense : n ≡ m → {t : List ℤ} → Bared 0 r s t → Says (end_of_broadcast (layout_at 0 s)) 0 t Done
+      pub becomes_dense : n ≡ m → {t : List ℤ} → Bared 0 r s t → Says (end_of_broadcast (layout_at 0 s)) 0 t (Ok tt)
       unfolding to_dense
       becomes_dense f b =
           let ranks : r ≡ rank (layout_at 0 s) = r-is ∙ sym (rank_is h) in
@@ -139,9 +139,6 @@ module _ {s : List ℤ} (h : Holds 0 s) where
       pub ask_sparse_lem : (n ≡ m → ⊥) → SparseEnd s
       ask_sparse_lem f = record { holds = h; sparse = kind_is; not_full = counted ∙ ne_eqb n m f }
 
-      pub ask_dense_lem : BareAsked 0 r s
-      ask_dense_lem = record { holds = h; kind_most = omega arith; dense_most = omega (arith, r-is) }
-
 -- ---- `end_sparse`
 
 module _ {s : List ℤ} (q : SparseEnd s) {r : ℕ} (r-is : r ≡ get_or (view s) 2 0) where
@@ -152,7 +149,7 @@ module _ {s : List ℤ} (q : SparseEnd s) {r : ℕ} (r-is : r ≡ get_or (view s
   ranks_are = rank_is q.holds ∙ sym r-is
 
   -- one without axes: 12
-  pub refuses_scalar : r ≡ 0 → (t : List ℤ) → Says (end_of_broadcast (layout_at 0 s)) 0 t (Refused MadeUnsound)
+  pub refuses_scalar : r ≡ 0 → (t : List ℤ) → Says (end_of_broadcast (layout_at 0 s)) 0 t (Err MadeUnsound)
   unfolding number_of
   refuses_scalar e t = says_refused MadeUnsound 0 t (end_scalar (layout_at 0 s) sparse_is q.not_full (ranks_are ∙ e))
 
@@ -161,14 +158,14 @@ module _ {s : List ℤ} (q : SparseEnd s) {r : ℕ} (r-is : r ≡ get_or (view s
     has_axes = omega (arith, r-is)
 
     module _ {b : Bool} (b-is : b ≡ is_diagonal_in_rows (layout_at 0 s)) where
-      pub stays_sparse : b ≡ false → Says (end_of_broadcast (layout_at 0 s)) 0 s Done
+      pub stays_sparse : b ≡ false → Says (end_of_broadcast (layout_at 0 s)) 0 s (Ok tt)
       stays_sparse e = record { is = sym (end_stays (layout_at 0 s) sparse_is q.not_full (λ z. some (sym ranks_are ∙ z)) (sym b-is ∙ e)); holds = λ _. q.holds }
 
       module _ {d : ℕ} (d-is : d ≡ get_or (view s) 1 0) where
         pub ask_diagonal_lem : BareAsked 1 d s
         ask_diagonal_lem = record { holds = q.holds; kind_most = omega arith; dense_most = omega (arith, d-is, dense_most q.holds) }
 
-        pub becomes_diagonal : b ≡ true → {t : List ℤ} → Bared 1 d s t → Says (end_of_broadcast (layout_at 0 s)) 0 t Done
+        pub becomes_diagonal : b ≡ true → {t : List ℤ} → Bared 1 d s t → Says (end_of_broadcast (layout_at 0 s)) 0 t (Ok tt)
         becomes_diagonal e {t} c =
             let dense : d ≡ (layout_at 0 s).dense = unfold layout_at in d-is in
             let diagonal : layout_at 0 t ≡ as_diagonal (layout_at 0 s) = c.layout ∙ rw dense in
@@ -199,10 +196,10 @@ module _ {s : List ℤ} (h : Holds 0 s) (some : 0 < rank_at 0 s) {r : ℕ} (r-is
     extents_told = unfold layout_at in rw (← r-is) (sym a-is)
 
     -- the extents differ
-    pub extents_differ : not a ≡ true → false ≡ is_diagonal_in_rows (layout_at 0 s)
-    extents_differ f = rw (axes, extents_told, not-true a f)
+    pub extents_differ : a ≡ false → false ≡ is_diagonal_in_rows (layout_at 0 s)
+    extents_differ f = rw (axes, extents_told, f)
 
-    module _ (f : not a ≡ false) {n x : ℕ} (n-is : n ≡ get_or (view s) 7 0) (x-is : x ≡ get_or (view s) 3 0) where
+    module _ (f : a ≡ true) {n x : ℕ} (n-is : n ≡ get_or (view s) 7 0) (x-is : x ≡ get_or (view s) 3 0) where
       count_is : length (layout_at 0 s).rows ≡ n
       count_is = unfold layout_at in table_length 7 (width_at 0 s) s ∙ sym n-is
 
@@ -211,7 +208,7 @@ module _ {s : List ℤ} (h : Holds 0 s) (some : 0 < rank_at 0 s) {r : ℕ} (r-is
 
       -- so many rows are no diagonal
       pub count_differs : (n ≡ x → ⊥) → false ≡ is_diagonal_in_rows (layout_at 0 s)
-      count_differs g = rw (axes, extents_told, not-false a f, count_is, first_is, ne_eqb n x g)
+      count_differs g = rw (axes, extents_told, f, count_is, first_is, ne_eqb n x g)
 
       module _ (g : n ≡ x) {d : ℕ} (d-is : d ≡ get_or (view s) 1 0) where
         pub dense_under : d ≤ r
@@ -227,4 +224,4 @@ module _ {s : List ℤ} (h : Holds 0 s) (some : 0 < rank_at 0 s) {r : ℕ} (r-is
 
         -- each row decides
         pub rows_decide : {t : Bool} → t ≡ all alike (rows_at 8 (r - d) n s) → t ≡ is_diagonal_in_rows (layout_at 0 s)
-        rows_decide {t} i = rw (axes, extents_told, not-false a f, count_is, first_is, eq-eqb n x g) (i ∙ unfold layout_at table_at in rw (n-is, r-is, d-is))
+        rows_decide {t} i = rw (axes, extents_told, f, count_is, first_is, eq-eqb n x g) (i ∙ unfold layout_at table_at in rw (n-is, r-is, d-is))

@@ -1,4 +1,5 @@
 -- One fold after the other in a window: the next layout is brought to the right, both are combined, and what comes out moves to the left. Assumes nothing.
+use Rattle.std.specs.Prelude.{Err, Ok, Result, ⊤}
 use mathlib.Core.Path.{◌≡◌, refl, sym, ap, ◌∙◌}
 use mathlib.Core.Bool.{Bool, true, false, ◌&&◌}
 use mathlib.Core.List.{List, [], ◌∷◌, reverse, reverse-append}
@@ -15,8 +16,6 @@ use Rattle.rules.specs.declared.Refusal.{Refusal}
 use Rattle.rules.specs.declared.Refusal.TheVariants.{SparseDivisor}
 use Rattle.rules.specs.declared.Rule.{Rule}
 use Rattle.rules.specs.declared.Rule.TheVariants.{Unite, Multiply, Divide}
-use Rattle.rules.specs.declared.Step.{Step}
-use Rattle.rules.specs.declared.Step.TheVariants.{Done, Refused}
 use Rattle.rules.specs.RowsInOrder.{increasing}
 use Rattle.rules.specs.Refusals.{Verdict, given, refused, ◌then◌, number_of, lowest}
 use Rattle.rules.specs.Layout.{Layout}
@@ -48,12 +47,12 @@ use Rattle.fold.proofs.Folds.{fold_back_lem}
 -- ---- what a step says
 
 -- a fold that is refused as the rule is says so
-folded_refused : (r : Refusal) {v : Verdict Layout} (s : List ℤ) → v ≡ refused (number_of r) → Folded v s (Refused r)
+folded_refused : (r : Refusal) {v : Verdict Layout} (s : List ℤ) → v ≡ refused (number_of r) → Folded v s (Err r)
 folded_refused r s e = record { says = says_refused r left s e; ready = λ d. absurd (never_done d) }
 
 -- ---- `combine_in`
 
-pub combined_as : (rule : Rule) {other : Layout → Layout → Verdict Layout} {s t : List ℤ} {r : Step} →
+pub combined_as : (rule : Rule) {other : Layout → Layout → Verdict Layout} {s t : List ℤ} {r : (Result ⊤ Refusal)} →
     combine rule (layout_at left s) (layout_at right s) ≡ other (layout_at left s) (layout_at right s) → Combined other s t r → Combined (combine rule) s t r
 combined_as rule e c = record { says = rw e c.says; only = c.only }
 
@@ -78,7 +77,7 @@ module _ (first : Bool) (rule : Rule) {s : List ℤ} (o : OrderedWindow s) {b : 
   fold = fold_one first rule (layout_at left s) (layout_at right s)
 
   -- 9
-  pub next_barred : b ≡ true → (t : List ℤ) → Folded fold t (Refused SparseDivisor)
+  pub next_barred : b ≡ true → (t : List ℤ) → Folded fold t (Err SparseDivisor)
   unfolding lowest number_of
   next_barred f t = folded_refused SparseDivisor t (rw (sym e ∙ f))
 
@@ -87,18 +86,18 @@ module _ (first : Bool) (rule : Rule) {s : List ℤ} (o : OrderedWindow s) {b : 
     unfolding lowest
     free = rw (sym e ∙ f)
 
-    module _ {t : List ℤ} {step : Step} (c : Combined (combine rule) s t step) where
-      pub next_refused : {why : Refusal} → step ≡ Refused why → Folded fold t (Refused why)
+    module _ {t : List ℤ} {step : (Result ⊤ Refusal)} (c : Combined (combine rule) s t step) where
+      pub next_refused : {why : Refusal} → step ≡ Err why → Folded fold t (Err why)
       next_refused {why} g = folded_refused why t (free ∙ refused_said c.says g)
 
       room : window_size ≤ length t
       room = rw c.only.size o.window.room
 
-      module _ (g : step ≡ Done) where
+      module _ (g : step ≡ Ok tt) where
         pub held : Holds target t
         held = c.says.holds g
 
-        pub next_done : {u : List ℤ} → Carried t u → Folded fold u Done
+        pub next_done : {u : List ℤ} → Carried t u → Folded fold u (Ok tt)
         next_done {u} m = record {
           says = record { is = sym (free ∙ made); holds = λ _. there };
           ready = λ _. record { holds = there; ordered = true_increasing (combine_in_order _ _ (increasing_true _ o.left_ordered) (increasing_true _ o.right_ordered) rule made); room = rw m.size room };
@@ -166,7 +165,7 @@ module _ (mode : Mode) (shape : Shape) (s : List ℤ) (at : ℕ) (window : List 
         right_ordered = rw right_is (stretched_order mode (layout_in (drop at s)) (extents_of shape));
       }
 
-      pub onto_folded : (first : Bool) (rule : Rule) {t : List ℤ} {step : Step} → Folded (fold_one first rule (layout_at left both) (layout_at right both)) t step →
+      pub onto_folded : (first : Bool) (rule : Rule) {t : List ℤ} {step : (Result ⊤ Refusal)} → Folded (fold_one first rule (layout_at left both) (layout_at right both)) t step →
           Folded (fold_one first rule (layout_at left window) brought) t step
       onto_folded first rule f = rw (left_stays, right_is) at f
 
@@ -225,7 +224,7 @@ module _ {mode : Mode} {shape : Shape} {rule : Rule} {n : ℕ} {places : List �
     below : k - 1 < n
     below = omega (arith, p.upto)
 
-    module _ {t : List ℤ} {step : Step} (f : Folded (fold_one first rule (layout_at left window) (stretched_to mode shape (drop (get_or places (k - 1) 0) s))) t step) where
+    module _ {t : List ℤ} {step : (Result ⊤ Refusal)} (f : Folded (fold_one first rule (layout_at left window) (stretched_to mode shape (drop (get_or places (k - 1) 0) s))) t step) where
       goes_on : fold_back rule (reverse (all_stretched mode shape n places s)) ≡
           (fold_one first rule (layout_at left window) (stretched_to mode shape (drop (get_or places (k - 1) 0) s)) then λ both. fold_from false rule both (reverse (take (k - 1) (all_stretched mode shape n places s))))
       unfolding fold_from
@@ -236,15 +235,15 @@ module _ {mode : Mode} {shape : Shape} {rule : Rule} {n : ℕ} {places : List �
           ∙ ap (fold_from first rule (layout_at left window)) (next p.asked below)
 
       -- one fold is refused
-      pub fold_stop : {why : Refusal} → step ≡ Refused why → Says (fold_back rule (reverse (all_stretched mode shape n places s))) left t (Refused why)
+      pub fold_stop : {why : Refusal} → step ≡ Err why → Says (fold_back rule (reverse (all_stretched mode shape n places s))) left t (Err why)
       fold_stop {why} e = says_refused why left t (goes_on ∙ rw (refused_said f.says e))
 
       -- one is done
-      pub fold_turn : step ≡ Done → length t ≡ size → FoldedTo mode shape rule n places s size false (k - 1) t
+      pub fold_turn : step ≡ Ok tt → length t ≡ size → FoldedTo mode shape rule n places s size false (k - 1) t
       fold_turn e l = record { asked = p.asked; upto = below; ready = f.ready e; same_size = l; eq = goes_on ∙ rw (done_said f.says e) }
 
   -- all are done
-  pub fold_done : k ≤ 0 → Says (fold_back rule (reverse (all_stretched mode shape n places s))) left window Done
+  pub fold_done : k ≤ 0 → Says (fold_back rule (reverse (all_stretched mode shape n places s))) left window (Ok tt)
   unfolding fold_from
   fold_done h =
       let none : k ≡ 0 = omega arith in

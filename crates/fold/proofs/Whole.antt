@@ -1,4 +1,5 @@
 -- A whole broadcast: the common shape, then all stretched, then folded, then ended. Assumes nothing.
+use Rattle.std.specs.Prelude.{Err, Ok, Result, ⊤}
 use mathlib.Core.Path.{◌≡◌, refl, sym, ap, ◌∙◌}
 use mathlib.Core.Bool.{Bool, true, false, not, ◌||◌}
 use mathlib.Core.List.{List, [], ◌∷◌, map, reverse}
@@ -9,11 +10,8 @@ use lib.IntN.{ℤ, pos}
 use lib.ListN.{length, take, drop, replicate, length-map}
 use lib.Seq.{take_at}
 use Rattle.rules.specs.declared.Mode.{Mode}
-use Rattle.rules.specs.declared.Number.TheVariants.{Is, Refused as NoNumber}
 use Rattle.rules.specs.declared.Refusal.{Refusal}
 use Rattle.rules.specs.declared.Rule.{Rule}
-use Rattle.rules.specs.declared.Step.{Step}
-use Rattle.rules.specs.declared.Step.TheVariants.{Done, Refused}
 use Rattle.rules.specs.declared.Tuple.{Tuple}
 use Rattle.rules.specs.Limits.{rank_limit, product_limit}
 use Rattle.rules.specs.Lists.{none, fit_to}
@@ -21,7 +19,7 @@ use Rattle.rules.specs.Buffers.{part}
 use Rattle.rules.specs.Refusals.{Verdict, given, refused, ◌then◌, in_form, number_of, ◌when◌, lowest}
 use Rattle.rules.specs.Layout.{Layout, nonzero_product, within_product}
 use Rattle.rules.specs.Shapes.{shapes_agree, common_shape, broadcast_shapes}
-use Rattle.rules.specs.Endings.{TupleIs}
+use Rattle.rules.specs.Endings.{tuple_of, TupleIs}
 use Rattle.rules.specs.Broadcast.{stretch_all, fold_back, end_of_broadcast, broadcast}
 use Rattle.rules.proofs.Extents.{extent_nonzero}
 use Rattle.rules.proofs.Unions.{never}
@@ -49,19 +47,19 @@ whether_refused : {A : Type 0} (v : Verdict A) {n : ℕ} → refused n ≡ wheth
 whether_refused (given a) e = absurd (never e)
 whether_refused (refused m) {n} e = let same : m ≡ n = cc in ap refused same
 
-module _ {shape : Shape} {n : ℕ} {places : List ℕ} {s : List ℤ} (a : AllAsked shape n places s) (mode : Mode) (rule : Rule) (step : Step)
+module _ {shape : Shape} {n : ℕ} {places : List ℕ} {s : List ℤ} (a : AllAsked shape n places s) (mode : Mode) (rule : Rule) (step : Result ⊤ Refusal)
     (e : told step ≡ whether (stretch_all mode (extents_of shape) (layouts_at n places s))) where
   abbrev whole : Verdict Layout
   whole = broadcast_to mode (extents_of shape) (layouts_at n places s) rule
 
   -- a stretching is refused
-  pub stretching_stops : {why : Refusal} → step ≡ Refused why → (w : List ℤ) → Says whole left w (Refused why)
+  pub stretching_stops : {why : Refusal} → step ≡ Err why → (w : List ℤ) → Says whole left w (Err why)
   unfolding broadcast_to
   stretching_stops {why} f w =
       says_refused why left w (rw (whether_refused (stretch_all mode (extents_of shape) (layouts_at n places s)) (sym (ap told f) ∙ e)))
 
-  module _ (f : step ≡ Done) where
-    all_told : told Done ≡ whether (stretch_all mode (extents_of shape) (layouts_at n places s))
+  module _ (f : step ≡ Ok tt) where
+    all_told : told (Ok tt) ≡ whether (stretch_all mode (extents_of shape) (layouts_at n places s))
     all_told = sym (ap told f) ∙ e
 
     pub ask_folds : 0 < n → AllBringable mode shape n places s
@@ -71,12 +69,12 @@ module _ {shape : Shape} {n : ℕ} {places : List ℕ} {s : List ℤ} (a : AllAs
     unfolding broadcast_to
     folds = rw (all_stretched_lem a mode all_told)
 
-    module _ {w : List ℤ} {fold : Step} (d : Says (fold_back rule (reverse (all_stretched mode shape n places s))) left w fold) where
+    module _ {w : List ℤ} {fold : (Result ⊤ Refusal)} (d : Says (fold_back rule (reverse (all_stretched mode shape n places s))) left w fold) where
       -- a fold is refused
-      pub fold_stops : {why : Refusal} → fold ≡ Refused why → Says whole left w (Refused why)
+      pub fold_stops : {why : Refusal} → fold ≡ Err why → Says whole left w (Err why)
       fold_stops {why} g = says_refused why left w (folds ∙ rw (refused_said d g))
 
-      module _ (g : fold ≡ Done) where
+      module _ (g : fold ≡ Ok tt) where
         held : Holds left w
         held = d.holds g
 
@@ -84,7 +82,7 @@ module _ {shape : Shape} {n : ℕ} {places : List ℕ} {s : List ℤ} (a : AllAs
         pub ask_end : Holds 0 (lent_of left right w)
         ask_end = lent_part_holds held
 
-        pub whole_ended : {x : List ℤ} {end : Step} → length x ≡ length (lent_of left right w) → Says (end_of_broadcast (layout_at 0 (lent_of left right w))) 0 x end → Says whole left (back_in left right w x) end
+        pub whole_ended : {x : List ℤ} {end : (Result ⊤ Refusal)} → length x ≡ length (lent_of left right w) → Says (end_of_broadcast (layout_at 0 (lent_of left right w))) 0 x end → Says whole left (back_in left right w x) end
         whole_ended {x} same p =
             rw (folds, done_said d g, ← lent_part_layout held)
             (back_says left right w (omega arith) held.inside x same 0 left refl (omega arith) p)
@@ -101,21 +99,21 @@ common_within shapes e = given_such (λ l. within_product l ≡ true) _ (by (non
     by false true f = f
     by false false f = tt
 
-module _ {v : Verdict (List ℕ)} {r : Tuple} (t : TupleIs v r) where
+module _ {v : Verdict (List ℕ)} (r : Result Tuple Refusal) (t : TupleIs v r) where
   -- a shape by value that is refused
-  tuple_refused : {why : Refusal} → r.count ≡ NoNumber why → v ≡ refused (number_of why)
-  tuple_refused {why} e = by v (rw e at t.count)
+  tuple_refused : {why : Refusal} → r ≡ Err why → v ≡ refused (number_of why)
+  tuple_refused {why} e = by v (rw e at t)
     where
-      by : (x : Verdict (List ℕ)) → refused (number_of why) ≡ in_form length x → x ≡ refused (number_of why)
+      by : (x : Verdict (List ℕ)) → refused (number_of why) ≡ in_form tuple_of x → x ≡ refused (number_of why)
       by (given l) f = absurd (never f)
       by (refused m) f = let same : m ≡ number_of why = cc in ap refused same
 
   -- one that is given
-  tuple_given : {m : ℕ} → r.count ≡ Is m → (l : List ℕ) × (v ≡ given l) × (m ≡ length l) × (r.numbers ≡ fit_to rank_limit 0 l)
-  tuple_given {m} e = by v refl (rw e at t.count)
+  tuple_given : {m : Tuple} → r ≡ Ok m → (l : List ℕ) × (v ≡ given l) × (m.count ≡ length l) × (m.numbers ≡ fit_to rank_limit 0 l)
+  tuple_given {m} e = by v refl (rw e at t)
     where
-      by : (x : Verdict (List ℕ)) → v ≡ x → given m ≡ in_form length x → (l : List ℕ) × (v ≡ given l) × (m ≡ length l) × (r.numbers ≡ fit_to rank_limit 0 l)
-      by (given l) g f = (l, g, cc, t.numbers ∙ rw g)
+      by : (x : Verdict (List ℕ)) → v ≡ x → given m ≡ in_form tuple_of x → (l : List ℕ) × (v ≡ given l) × (m.count ≡ length l) × (m.numbers ≡ fit_to rank_limit 0 l)
+      by (given l) g f = let same : m ≡ tuple_of l = cc f in (l, g, ap (λ (x : Tuple). x.count) same, ap (λ (x : Tuple). x.numbers) same)
       by (refused k) g f = absurd (never (sym f))
 
 -- the first numbers of a list that was filled up
@@ -128,18 +126,18 @@ unfolding part
 extents_by shape m four l p e f h =
     rw (p.rank_is, p.extents_are, e, view_pos (fit_to 4 0 l), f) (fit_front l (omega arith))
 
-module _ {n : ℕ} {places : List ℕ} {s : List ℤ} (k : EachAt JudgedRecord n places s) (mode : Mode) (rule : Rule) {r : Tuple} (t : TupleIs (common_of n places s) r) where
+module _ {n : ℕ} {places : List ℕ} {s : List ℤ} (k : EachAt JudgedRecord n places s) (mode : Mode) (rule : Rule) (r : Result Tuple Refusal) (t : TupleIs (common_of n places s) r) where
   abbrev all : Verdict Layout
   all = broadcast mode (layouts_at n places s) rule
 
   -- there is no common shape
-  pub common_stops : {why : Refusal} → r.count ≡ NoNumber why → (w : List ℤ) → Says all left w (Refused why)
+  pub common_stops : {why : Refusal} → r ≡ Err why → (w : List ℤ) → Says all left w (Err why)
   unfolding broadcast
-  common_stops {why} e w = says_refused why left w (rw (tuple_refused t e))
+  common_stops {why} e w = says_refused why left w (rw (tuple_refused r t e))
 
-  module _ (few : RankFew n r) {m : ℕ} (e : r.count ≡ Is m) where
-    common : (l : List ℕ) × (common_of n places s ≡ given l) × (m ≡ length l) × (r.numbers ≡ fit_to rank_limit 0 l)
-    common = tuple_given t e
+  module _ (few : RankFew n r) {m : Tuple} (e : r ≡ Ok m) where
+    common : (l : List ℕ) × (common_of n places s ≡ given l) × (m.count ≡ length l) × (m.numbers ≡ fit_to rank_limit 0 l)
+    common = tuple_given r t e
 
     within : within_product common.0 ≡ true
     within = common_within (map (λ l. l.shape) (layouts_at n places s)) common.1
@@ -148,12 +146,12 @@ module _ {n : ℕ} {places : List ℕ} {s : List ℤ} (k : EachAt JudgedRecord n
     unfolding within_product
     low i = omega (arith, extent_nonzero common.0 i 0 (omega arith), leb-true (nonzero_product common.0) product_limit within)
 
-    pub numbers_low : Low r.numbers
+    pub numbers_low : Low m.numbers
     numbers_low = rw common.3 (fit_low 4 common.0 low)
 
-    module _ {shape : Shape} (p : ShapeIs m r.numbers shape) where
+    module _ {shape : Shape} (p : ShapeIs m.count m.numbers shape) where
       extents_are : extents_of shape ≡ common.0
-      extents_are = extents_by shape m r.numbers common.0 p common.3 common.2 (few m e).0
+      extents_are = extents_by shape m.count m.numbers common.0 p common.3 common.2 (few m e).0
 
       pub ask_stretches : AllAsked shape n places s × (0 < n)
       ask_stretches = (record { inside = k.inside; each = k.known; fits = fits }, (few m e).1)
@@ -164,6 +162,6 @@ module _ {n : ℕ} {places : List ℕ} {s : List ℤ} (k : EachAt JudgedRecord n
           fits : ShapeFits shape
           fits = record { extents = record { room = omega (arith, p.rank_is, (few m e).0, size); within = rw extents_are within }; few = omega (arith, p.rank_is, (few m e).0) }
 
-      pub whole_said : {w : List ℤ} {step : Step} → Says (broadcast_to mode (extents_of shape) (layouts_at n places s) rule) left w step → Says all left w step
+      pub whole_said : {w : List ℤ} {step : (Result ⊤ Refusal)} → Says (broadcast_to mode (extents_of shape) (layouts_at n places s) rule) left w step → Says all left w step
       unfolding broadcast broadcast_to
       whole_said d = rw (common.1, ← extents_are) d

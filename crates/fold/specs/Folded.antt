@@ -1,9 +1,9 @@
 -- Layouts folded one after the other, as the code goes: what is folded so far is the left layout of a window.
+use Rattle.std.specs.Prelude.{Ok, Result, ⊤}
+use Rattle.rules.specs.declared.Refusal.{Refusal}
 use Rattle.std.specs.Prelude.{◌≡◌, Bool, true, false, ◌&&◌, List, [], ◌∷◌, reverse, ℕ, ◌+◌, ◌≤◌, ℤ, eqb, length, get_or}
 use Rattle.rules.specs.declared.Mode.{Mode}
 use Rattle.rules.specs.declared.Rule.{Rule}
-use Rattle.rules.specs.declared.Step.{Step}
-use Rattle.rules.specs.declared.Step.TheVariants.{Done}
 use Rattle.rules.specs.Limits.{entry_limit}
 use Rattle.rules.specs.Lists.{same}
 use Rattle.rules.specs.RowsInOrder.{increasing}
@@ -56,9 +56,9 @@ pub record Carried (s t : List ℤ) : Type 0 where
   pub size : length t ≡ length s
 
 -- what a step says of the left part is v, and if it made a layout its rows are in order
-pub record Folded (v : Verdict Layout) (s : List ℤ) (step : Step) : Type 0 where
+pub record Folded (v : Verdict Layout) (s : List ℤ) (step : Result ⊤ Refusal) : Type 0 where
   pub says : Says v left s step
-  pub ready : step ≡ Done → LeftReady s
+  pub ready : step ≡ Ok tt → LeftReady s
 
 -- all stretched in a mode to a shape, folded from the last, and ended
 unfoldable pub broadcast_to : Mode → List ℕ → List Layout → Rule → Verdict Layout

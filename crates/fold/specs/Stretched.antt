@@ -1,8 +1,8 @@
 -- The common shape of records, and records that are stretched to it: judged, then brought into a part.
+use Rattle.std.specs.Prelude.{Err, Ok, Result, ⊤}
+use Rattle.rules.specs.declared.Refusal.{Refusal}
 use Rattle.std.specs.Prelude.{◌≡◌, List, [], map, ℕ, ◌<◌, ◌≤◌, ℤ, pos, get_or}
 use Rattle.rules.specs.declared.Mode.{Mode}
-use Rattle.rules.specs.declared.Step.{Step}
-use Rattle.rules.specs.declared.Step.TheVariants.{Done, Refused}
 use Rattle.rules.specs.Refusals.{Verdict, given, refused, in_form, number_of}
 use Rattle.rules.specs.Layout.{Layout}
 use Rattle.rules.specs.Record.{layout_in}
@@ -51,9 +51,9 @@ abbrev pub stretching : Mode → Shape → List ℤ → Verdict Layout
 stretching mode shape from = broadcast_to_shape mode (layout_in from) (extents_of shape)
 
 -- a step tells whether something is refused, whatever it gives
-abbrev pub told : Step → Verdict Unit
-told Done = given tt
-told (Refused why) = refused (number_of why)
+abbrev pub told : Result ⊤ Refusal → Verdict Unit
+told (Ok tt) = given tt
+told (Err why) = refused (number_of why)
 
 abbrev pub whether : {A : Type 0} → Verdict A → Verdict Unit
 whether v = in_form (λ _. tt) v

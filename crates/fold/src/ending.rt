@@ -9,7 +9,7 @@ ghost use Rattle.parts.specs.Answers.{Says};
 ghost use Rattle.fold.specs.Ended.{BareAsked, Bared, SparseEnd};
 
 use parts::{DENSE, EXTENTS, FIRST_ROW, KIND, RANK, ROWS};
-use rules::{Refusal, Step};
+use rules::{Kind, Refusal};
 
 // Whether each of n rows has equal components.
 fn rows_alike(part: &[i32], n: usize, w: usize) -> bool
@@ -54,33 +54,33 @@ fn bare(part: &mut [i32], kind: usize, dense: usize)
 }
 
 // The end of a sparse layout that is not full.
-fn end_sparse(part: &mut [i32]) -> Step
+fn end_sparse(part: &mut [i32]) -> Result<(), Refusal>
     requires { SparseEnd part.old }
     ensures { Says (end_of_broadcast (layout_at 0 part.old)) 0 part.new result }
 {
     if cells::get(part, RANK) == 0 {
-        return Step::Refused(Refusal::MadeUnsound);
+        return Err(Refusal::MadeUnsound);
     }
     if is_diagonal_in_rows(part) {
         let dense = cells::get(part, DENSE);
         bare(part, 1, dense);
     }
-    Step::Done
+    Ok(())
 }
 
 // The end: a sparse layout with as many rows as the product becomes dense, one of rank 0 gives 12, and one whose rows are a
 // diagonal becomes diagonal; any other stays.
-pub fn end(part: &mut [i32]) -> Step
+pub fn end(part: &mut [i32]) -> Result<(), Refusal>
     requires { Holds 0 part.old }
     ensures { Says (end_of_broadcast (layout_at 0 part.old)) 0 part.new result }
 {
-    if cells::get(part, KIND) != 2 {
-        return Step::Done;
-    }
+    let Kind::Sparse = records::kind_at(part, KIND) else {
+        return Ok(());
+    };
     let rank = cells::get(part, RANK);
     if cells::get(part, ROWS) == axes::product(part, EXTENTS, rank) {
         bare(part, 0, rank);
-        return Step::Done;
+        return Ok(());
     }
     end_sparse(part)
 }

@@ -11,8 +11,9 @@ ghost use Rattle.fold.specs.Folded.{same_heads, fold_one, LeftReady, LeftIs, Fol
 
 use super::agreeing::Shape;
 use super::stretching::bring;
+use lists::Places;
 use parts::{DENSE, EXTENTS, INPUTS, LEFT, RANK, RIGHT, ROWS, STATES, TARGET};
-use rules::{Mode, Refusal, Rule, Step};
+use rules::{Kind, Mode, Refusal, Rule};
 
 const RIGHT_ROWS: usize = RIGHT + ROWS;
 
@@ -39,17 +40,16 @@ fn eq_nonzeros(window: &[i32]) -> bool
 }
 
 // Whether the left layout is sparse, and the right one is dense or differs.
+#[tactic(auto, using(crate::proofs::Comparing::kind_laws))]
 fn sparse_differs(window: &[i32]) -> bool
     requires { Window window.now }
     ensures { result ≡ divides_by_sparse Rule.Divide (layout_at left window.now) (layout_at right window.now) }
 {
-    if cells::get(window, LEFT) != 2 {
-        return false;
+    match records::kind_at(window, LEFT) {
+        Kind::Sparse => matches!(records::kind_at(window, RIGHT), Kind::Dense)
+            || !eq_nonzeros(window),
+        _ => false,
     }
-    if cells::get(window, RIGHT) == 0 {
-        return true;
-    }
-    !eq_nonzeros(window)
 }
 
 // Whether a rule divides by a sparse layout whose neighbour differs.
@@ -59,20 +59,18 @@ fn divides_by_sparse(rule: Rule, window: &[i32]) -> bool
 {
     match rule {
         Rule::Divide => sparse_differs(window),
-        Rule::Multiply => false,
-        Rule::Unite => false,
+        Rule::Multiply | Rule::Unite => false,
     }
 }
 
 // Both layouts are combined by a rule into the target.
-fn combine_in(rule: Rule, window: &mut [i32]) -> Step
+fn combine_in(rule: Rule, window: &mut [i32]) -> Result<(), Refusal>
     requires { OrderedWindow window.old }
     ensures { Combined (combine rule) window.old window.new result }
 {
     match rule {
         Rule::Unite => combine::union_in(window, true),
-        Rule::Multiply => intersecting::intersect_in(window),
-        Rule::Divide => intersecting::intersect_in(window),
+        Rule::Multiply | Rule::Divide => intersecting::intersect_in(window),
     }
 }
 
@@ -81,10 +79,7 @@ fn is_barred(first: bool, rule: Rule, window: &[i32]) -> bool
     requires { Window window.now }
     ensures { result ≡ (first && divides_by_sparse rule (layout_at left window.now) (layout_at right window.now)) }
 {
-    if first {
-        return divides_by_sparse(rule, window);
-    }
-    false
+    first && divides_by_sparse(rule, window)
 }
 
 // The table at a place of the target goes to that place of the left part: its count and its rows, without the room behind them.
@@ -110,18 +105,16 @@ fn carry_left(window: &mut [i32])
 }
 
 // One fold: both layouts are combined, and what comes out becomes the left one.
-fn fold_next(first: bool, rule: Rule, window: &mut [i32]) -> Step
+fn fold_next(first: bool, rule: Rule, window: &mut [i32]) -> Result<(), Refusal>
     requires { OrderedWindow window.old }
     ensures { Folded (fold_one first rule (layout_at left window.old) (layout_at right window.old)) window.new result }
 {
     if is_barred(first, rule, window) {
-        return Step::Refused(Refusal::SparseDivisor);
+        return Err(Refusal::SparseDivisor);
     }
-    if let Step::Refused(why) = combine_in(rule, window) {
-        return Step::Refused(why);
-    }
+    combine_in(rule, window)?;
     carry_left(window);
-    Step::Done
+    Ok(())
 }
 
 // The record at a place goes into the left part, stretched.
@@ -142,7 +135,7 @@ fn fold_onto(
     at: usize,
     shape: Shape,
     window: &mut [i32],
-) -> Step
+) -> Result<(), Refusal>
     requires at_in_bounds { (at ≤ length layouts.now) × BringAsked mode shape (drop at layouts.now) }
     requires left_ready { LeftReady window.old }
     ensures { Folded (fold_one first rule (layout_at left window.old) (stretched_to mode shape (drop at layouts.now))) window.new result }
@@ -151,31 +144,25 @@ fn fold_onto(
     fold_next(first, rule, window)
 }
 
-// n records, which may be stretched to the shape, are folded from the last; the layout that comes out stands in the left part.
+// Records, which may be stretched to the shape, are folded from the last; the layout that comes out stands in the left part.
 pub fn fold_all(
     mode: Mode,
     layouts: &[i32],
-    places: [usize; 16],
-    n: usize,
+    places: &Places,
     shape: Shape,
     rule: Rule,
     window: &mut [i32],
-) -> Step
-    requires all_bringable { AllBringable mode shape n places layouts.now }
+) -> Result<(), Refusal>
+    requires all_bringable { AllBringable mode shape places.now.count places.now.at layouts.now }
     requires window_size_in_bounds { window_size ≤ length window.old }
-    ensures { Says (fold_back rule (reverse (all_stretched mode shape n places layouts.now))) left window.new result }
+    ensures { Says (fold_back rule (reverse (all_stretched mode shape places.now.count places.now.at layouts.now))) left window.new result }
 {
-    let mut k = n - 1;
+    let last = places.count - 1;
     let mut first = true;
-    bring_left(mode, layouts, places[k], shape, window);
-    while 0 < k {
-        k -= 1;
-        if let Step::Refused(why) = fold_onto(
-            mode, first, rule, layouts, places[k], shape, window,
-        ) {
-            return Step::Refused(why);
-        }
+    bring_left(mode, layouts, places.at[last], shape, window);
+    for k in (0..last).rev() {
+        fold_onto(mode, first, rule, layouts, places.at[k], shape, window)?;
         first = false;
     }
-    Step::Done
+    Ok(())
 }

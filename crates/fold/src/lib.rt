@@ -18,37 +18,26 @@ ghost use Rattle.fold.specs.Folded.{broadcast_to};
 use agreeing::{Shape, as_shape, common_shape};
 use ending::end;
 use folding::fold_all;
+use lists::Places;
 use parts::{LEFT, RIGHT};
-use rules::{Mode, Number, Rule, Step};
+use rules::{Mode, Refusal, Rule};
 use stretching::judge_all;
 
 // The records are stretched in a mode to a shape, folded and ended; the layout that comes out stands in the left part.
 fn stretch_and_fold(
     mode: Mode,
     layouts: &[i32],
-    places: [usize; 16],
-    n: usize,
+    places: &Places,
     shape: Shape,
     rule: Rule,
     window: &mut [i32],
-) -> Step
-    requires all_asked { AllAsked shape n places layouts.now × (0 < n) }
+) -> Result<(), Refusal>
+    requires all_asked { AllAsked shape places.now.count places.now.at layouts.now × (0 < places.now.count) }
     requires window_size_in_bounds { window_size ≤ length window.old }
-    ensures { Says (broadcast_to mode (extents_of shape) (layouts_at n places layouts.now) rule) left window.new result }
+    ensures { Says (broadcast_to mode (extents_of shape) (layouts_at places.now.count places.now.at layouts.now) rule) left window.new result }
 {
-    if let Step::Refused(why) = judge_all(
-        mode,
-        layouts,
-        places,
-        n,
-        shape,
-        &mut window[LEFT..RIGHT],
-    ) {
-        return Step::Refused(why);
-    }
-    if let Step::Refused(why) = fold_all(mode, layouts, places, n, shape, rule, window) {
-        return Step::Refused(why);
-    }
+    judge_all(mode, layouts, places, shape, &mut window[LEFT..RIGHT])?;
+    fold_all(mode, layouts, places, shape, rule, window)?;
     end(&mut window[LEFT..RIGHT])
 }
 
@@ -56,23 +45,15 @@ fn stretch_and_fold(
 pub fn broadcast_in(
     mode: Mode,
     layouts: &[i32],
-    places: [usize; 16],
-    n: usize,
+    places: &Places,
     rule: Rule,
     window: &mut [i32],
-) -> Step
-    requires each_at { EachAt JudgedRecord n places layouts.now }
+) -> Result<(), Refusal>
+    requires each_at { EachAt JudgedRecord places.now.count places.now.at layouts.now }
     requires window_size_in_bounds { window_size ≤ length window.old }
-    ensures { Says (broadcast mode (layouts_at n places layouts.now) rule) left window.new result }
+    ensures { Says (broadcast mode (layouts_at places.now.count places.now.at layouts.now) rule) left window.new result }
 {
-    let common = common_shape(layouts, places, n);
-    let count = common.count;
-    match count {
-        Number::Is(rank) => {
-            let numbers = common.numbers;
-            let shape = as_shape(rank, numbers);
-            stretch_and_fold(mode, layouts, places, n, shape, rule, window)
-        }
-        Number::Refused(why) => Step::Refused(why),
-    }
+    let common = common_shape(layouts, places)?;
+    let shape = as_shape(common.count, common.numbers);
+    stretch_and_fold(mode, layouts, places, shape, rule, window)
 }

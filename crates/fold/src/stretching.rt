@@ -10,56 +10,49 @@ ghost use Rattle.lists.specs.Records.{layouts_at};
 ghost use Rattle.fold.specs.Stretched.{extents_of, ShapeFits, StretchAsked, BringAsked, AllAsked, Brought, stretched_to, stretching, told, whether};
 
 use super::agreeing::Shape;
-use rules::{Head, Mode, Refusal, Step, Walk};
+use lists::Places;
+use rules::{Head, Mode, Refusal};
 
 // Whether a record has the shape already.
+#[tactic(auto, using(crate::proofs::Bringing::shape_laws))]
 fn has_shape(from: &[i32], head: Head, shape: Shape) -> bool
     requires { SoundRecord head from.now × ShapeFits shape }
     ensures { result ≡ same (layout_in from.now).shape (extents_of shape) }
 {
-    if head.rank != shape.rank {
-        return false;
-    }
-    let extents = shape.extents;
-    tables::same_numbers(from, records::EXTENTS, &extents, 0, shape.rank)
+    head.rank == shape.rank
+        && tables::same_numbers(from, records::EXTENTS, &shape.extents, 0, shape.rank)
 }
 
 // Whether the record may be stretched to the shape; one that has it already may, and nothing is done for it.
-fn judge(mode: Mode, from: &[i32], shape: Shape, part: &mut [i32]) -> Step
+fn judge(mode: Mode, from: &[i32], shape: Shape, part: &mut [i32]) -> Result<(), Refusal>
     requires stretch_asked { StretchAsked shape from.now }
     requires part_size_in_bounds { part_size ≤ length part.old }
     ensures { told result ≡ whether (stretching mode shape from.now) }
 {
-    let Walk::To(head) = records::walk_record(from) else {
-        return Step::Refused(Refusal::Unsound);
-    };
+    let head = records::walk_record(from).ok_or(Refusal::Unsound)?;
     if has_shape(from, head, shape) {
-        return Step::Done;
+        return Ok(());
     }
-    let extents = shape.extents;
-    stretch::stretch_into(mode, from, head, &extents, 0, shape.rank, part)
+    stretch::stretch_into(mode, from, head, &shape.extents, 0, shape.rank, part)
 }
 
-// Whether each of n records may be stretched to the shape, in list order: the first that may not says why.
+// Whether each of the records may be stretched to the shape, in list order: the first that may not says why.
 pub fn judge_all(
     mode: Mode,
     layouts: &[i32],
-    places: [usize; 16],
-    n: usize,
+    places: &Places,
     shape: Shape,
     part: &mut [i32],
-) -> Step
-    requires all_asked { AllAsked shape n places layouts.now }
+) -> Result<(), Refusal>
+    requires all_asked { AllAsked shape places.now.count places.now.at layouts.now }
     requires part_size_in_bounds { part_size ≤ length part.old }
-    ensures { told result ≡ whether (stretch_all mode (extents_of shape) (layouts_at n places layouts.now)) }
+    ensures { told result ≡ whether (stretch_all mode (extents_of shape) (layouts_at places.now.count places.now.at layouts.now)) }
 {
-    for i in 0..n {
-        let at = places[i];
-        if let Step::Refused(why) = judge(mode, &layouts[at..], shape, part) {
-            return Step::Refused(why);
-        }
+    for i in 0..places.count {
+        let at = places.at[i];
+        judge(mode, &layouts[at..], shape, part)?;
     }
-    Step::Done
+    Ok(())
 }
 
 // Whether a record has the shape already and its rows are in order, so that stretching changes nothing.
@@ -67,10 +60,7 @@ fn is_unchanged(from: &[i32], head: Head, shape: Shape) -> bool
     requires { SoundRecord head from.now × ShapeFits shape }
     ensures { result ≡ (same (layout_in from.now).shape (extents_of shape) && ordered from.now) }
 {
-    if has_shape(from, head, shape) {
-        return records::rows_ordered(from, head);
-    }
-    false
+    has_shape(from, head, shape) && records::rows_ordered(from, head)
 }
 
 // A record that may be stretched to the shape goes into the part, stretched. That it may was judged before, so that the step is done.
@@ -79,13 +69,12 @@ pub fn bring(mode: Mode, from: &[i32], shape: Shape, part: &mut [i32])
     requires part_size_in_bounds { part_size ≤ length part.old }
     ensures { Brought (stretched_to mode shape from.now) part.new }
 {
-    let Walk::To(head) = records::walk_record(from) else {
+    let Some(head) = records::walk_record(from) else {
         return;
     };
     if is_unchanged(from, head, shape) {
         parts::load(from, head, part);
         return;
     }
-    let extents = shape.extents;
-    stretch::stretch_into(mode, from, head, &extents, 0, shape.rank, part);
+    let _ = stretch::stretch_into(mode, from, head, &shape.extents, 0, shape.rank, part);
 }

@@ -1,4 +1,6 @@
 -- `rows_fit` and `sparse`: rows that become a sparse record. Assumes nothing.
+use Rattle.std.specs.Prelude.{Err, Result}
+use Rattle.rules.specs.declared.Refusal.{Refusal}
 use mathlib.Core.Path.{◌≡◌, refl, sym, ap, ◌∙◌}
 use mathlib.Core.Bool.{Bool, true, false, not, ◌&&◌}
 use mathlib.Core.List.{List, [], map}
@@ -12,8 +14,6 @@ use lib.ListN.{length, get_or, take, drop, replicate, length-replicate, length-m
 use lib.Seq.{take_all, take-length}
 use lib.Signed.{non_neg}
 use Rattle.rules.specs.declared.Refusal.TheVariants.{MadeUnsound, MadeTooLarge}
-use Rattle.rules.specs.declared.Written.{Written}
-use Rattle.rules.specs.declared.Written.TheVariants.{Refused}
 use Rattle.rules.specs.Limits.{product_limit, result_size}
 use Rattle.rules.specs.Lists.{if, all, none, gather, all_below}
 use Rattle.rules.specs.RowsInOrder.{cmp_rows, insert, sorted, increasing}
@@ -184,7 +184,7 @@ module _ (s : List ℤ) (n : ℕ) (numbers : List ℤ) {t : Bool} (e : t ≡ all
       by true q = rw q (unformed_made (λ m. true_not_false (rw (q, true_well_formed m)) (sym e ∙ f)))
       by false q = rw q
 
-  pub sparse_refused : (old : List ℤ) → not t ≡ true → EndsIn (in_form encode (sparse (shape_in s) n numbers)) old (Refused MadeUnsound) old
+  pub sparse_refused : (old : List ℤ) → not t ≡ true → EndsIn (in_form encode (sparse (shape_in s) n numbers)) old (Err MadeUnsound) old
   unfolding number_of
   sparse_refused old f = ends_refused MadeUnsound old (sparse_wrong (not-true t f))
 
@@ -210,7 +210,7 @@ module _ (s : List ℤ) (n : ℕ) (numbers : List ℤ) {t : Bool} (e : t ≡ all
         by false = refl
 
     -- they are too many
-    pub sparse_too_large : (old : List ℤ) → 128 < n → EndsIn (in_form encode (sparse (shape_in s) n numbers)) old (Refused MadeTooLarge) old
+    pub sparse_too_large : (old : List ℤ) → 128 < n → EndsIn (in_form encode (sparse (shape_in s) n numbers)) old (Err MadeTooLarge) old
     unfolding number_of
     sparse_too_large old h = ends_refused MadeTooLarge old (sparse_made ∙ rw (lt-leb n 128 h))
 
@@ -236,7 +236,7 @@ module _ (s : List ℤ) (n : ℕ) (numbers : List ℤ) {t : Bool} (e : t ≡ all
           let listed : map pos (flat (entries_of w n l)) ≡ numbers = rw (rows, gather_rows w n l, all) (pos_naturals numbers both.0) in
           rw (lent_extents s j c) (sym (encode_pieces (sparse_of (shape_in s) n numbers) ∙ rw (count, listed)))
 
-      pub sparse_written : {old new : List ℤ} {r : Written} → EndsIn (given (pieces 2 0 (take (1 + rank - 1) (drop 1 s)) n numbers no_deps)) old r new →
+      pub sparse_written : {old new : List ℤ} {r : (Result ℕ Refusal)} → EndsIn (given (pieces 2 0 (take (1 + rank - 1) (drop 1 s)) n numbers no_deps)) old r new →
           EndsIn (in_form encode (sparse (shape_in s) n numbers)) old r new
       sparse_written x = rw (sparse_made, le-leb n 128 h) (ends_same x (ap given sparse_pieces))
 

@@ -1,4 +1,6 @@
 -- `dense`, `new_empty` and `diagonal`: records made of a shape. Assumes nothing.
+use Rattle.std.specs.Prelude.{Err, None, Option, Result, Some}
+use Rattle.rules.specs.declared.Entries.{Entries}
 use mathlib.Core.Path.{◌≡◌, refl, sym, ap, ◌∙◌}
 use mathlib.Core.Bool.{Bool, true, false, not}
 use mathlib.Core.List.{List, [], ◌∷◌, map}
@@ -12,10 +14,6 @@ use lib.Seq.{take-length}
 use lib.Signed.{non_neg}
 use Rattle.rules.specs.declared.Refusal.{Refusal}
 use Rattle.rules.specs.declared.Refusal.TheVariants.{MadeUnsound}
-use Rattle.rules.specs.declared.Section.{Section}
-use Rattle.rules.specs.declared.Section.TheVariants.{Whole, Cut}
-use Rattle.rules.specs.declared.Written.{Written}
-use Rattle.rules.specs.declared.Written.TheVariants.{Refused}
 use Rattle.rules.specs.Limits.{product_limit, result_size}
 use Rattle.rules.specs.Lists.{all, gather}
 use Rattle.rules.specs.Buffers.{part}
@@ -54,8 +52,8 @@ extents s {rank} j e = by (section_at 0 1 s) refl j.good
     counted : rank ≡ natural (get_or s 0 (pos 0))
     counted = e ∙ rank_counted s j
 
-    by : (g : Section) → section_at 0 1 s ≡ g → good_extents g s ≡ true → Extents s rank
-    by (Whole x) q f =
+    by : (g : Option Entries) → section_at 0 1 s ≡ g → good_extents g s ≡ true → Extents s rank
+    by (Some x) q f =
         let l = section_laid 0 1 s q in
         let count : rank ≡ x.count = counted ∙ rw l.count in
         let natural : all non_neg (part 1 x.count s) ≡ true = (both_true (all non_neg (part 1 x.count s)) (within_product (shape_in s)) f).0 in
@@ -64,7 +62,7 @@ extents s {rank} j e = by (section_at 0 1 s) refl j.good
           room = omega (arith, l.first, l.next, l.room, mul-one x.count);
           are = sym (pos_naturals (part 1 rank s) (rw count natural)) ∙ ap (λ (n : ℕ). map pos (naturals (part 1 n s))) counted;
         }
-    by Cut q f = absurd (true_not_false f refl)
+    by None q f = absurd (true_not_false f refl)
 
 module _ (s : List ℤ) {rank : ℕ} (j : Judged s) (e : rank ≡ length (shape_in s)) where
   -- they are lent as a part of the slice
@@ -100,7 +98,7 @@ unfolding gather
 bare_pieces k d shape = sym (encode_pieces (record { kind = k; dense = d; shape = shape; rows = []; states = []; inputs = [] }))
 
 -- dense
-pub dense_written : (s : List ℤ) {rank : ℕ} {old new : List ℤ} {r : Written} → Judged s → rank ≡ length (shape_in s) →
+pub dense_written : (s : List ℤ) {rank : ℕ} {old new : List ℤ} {r : (Result ℕ Refusal)} → Judged s → rank ≡ length (shape_in s) →
     EndsIn (given (pieces 0 rank (take (1 + rank - 1) (drop 1 s)) 0 [] no_deps)) old r new → EndsIn (given (encode (dense (shape_in s)))) old r new
 unfolding dense
 dense_written s j e t = ends_same t (ap given (rw (lent_extents s j e, e) (bare_pieces 0 (length (shape_in s)) (shape_in s))))
@@ -126,7 +124,7 @@ module _ (rank : ℕ) (h : rank ≤ 4) where
       let n = zeros_length in
       record { kind_small = omega arith; dense_small = omega arith; count_small = omega arith; extents_few = omega arith; room = omega arith }
 
-  pub empty_written : {old new : List ℤ} {r : Written} →
+  pub empty_written : {old new : List ℤ} {r : (Result ℕ Refusal)} →
       EndsIn (given (pieces 0 rank (take rank (pos 0 ∷ pos 0 ∷ pos 0 ∷ pos 0 ∷ [])) 0 [] no_deps)) old r new → EndsIn (given (encode (new_empty rank))) old r new
   unfolding dense
   empty_written t =
@@ -136,13 +134,13 @@ module _ (rank : ℕ) (h : rank ≤ 4) where
 -- ---- diagonal
 
 -- a refusal leaves the result
-pub ends_refused : {v : Verdict Layout} (why : Refusal) (old : List ℤ) → v ≡ refused (number_of why) → EndsIn (in_form encode v) old (Refused why) old
+pub ends_refused : {v : Verdict Layout} (why : Refusal) (old : List ℤ) → v ≡ refused (number_of why) → EndsIn (in_form encode v) old (Err why) old
 unfolding result_after
 ends_refused why old e = rw e (record { answer = refl; result_is = refl })
 
 module _ (s : List ℤ) {rank : ℕ} (j : Judged s) (e : rank ≡ length (shape_in s)) where
   -- without axes there is none
-  pub diagonal_none : (old : List ℤ) → rank ≡ 0 → EndsIn (in_form encode (diagonal (shape_in s))) old (Refused MadeUnsound) old
+  pub diagonal_none : (old : List ℤ) → rank ≡ 0 → EndsIn (in_form encode (diagonal (shape_in s))) old (Err MadeUnsound) old
   unfolding diagonal number_of
   diagonal_none old z = ends_refused MadeUnsound old (unformed_made {l = diagonal_of (shape_in s)} (λ w. let wide = w.diagonal_wide refl in omega arith))
 
@@ -151,7 +149,7 @@ module _ (s : List ℤ) {rank : ℕ} (j : Judged s) (e : rank ≡ length (shape_
     same = let all : length (shape_in s) - 0 ≡ length (shape_in s) = omega arith in rw (all, take-length) (sym (f ∙ ap alike (seen_extents s j e)))
 
     -- of extents that differ there is none
-    pub diagonal_unlike : (old : List ℤ) → not t ≡ true → EndsIn (in_form encode (diagonal (shape_in s))) old (Refused MadeUnsound) old
+    pub diagonal_unlike : (old : List ℤ) → not t ≡ true → EndsIn (in_form encode (diagonal (shape_in s))) old (Err MadeUnsound) old
     unfolding diagonal number_of
     diagonal_unlike old g =
         ends_refused MadeUnsound old (unformed_made {l = diagonal_of (shape_in s)} (λ w. true_not_false (w.diagonal_alike refl) (same ∙ not-true t g)))
@@ -181,7 +179,7 @@ module _ (s : List ℤ) {rank : ℕ} (j : Judged s) (e : rank ≡ length (shape_
           inputs_small = each_nil _;
         }
 
-    pub diagonal_written : {old new : List ℤ} {r : Written} → (rank ≡ 0 → ⊥) → not t ≡ false →
+    pub diagonal_written : {old new : List ℤ} {r : (Result ℕ Refusal)} → (rank ≡ 0 → ⊥) → not t ≡ false →
         EndsIn (given (pieces 1 0 (take (1 + rank - 1) (drop 1 s)) 0 [] no_deps)) old r new → EndsIn (in_form encode (diagonal (shape_in s))) old r new
     unfolding diagonal
     diagonal_written n g w =

@@ -1,12 +1,12 @@
 -- `write_record`: the pieces are written one behind the other; and a layout's record is made of such pieces. Assumes nothing.
+use Rattle.std.specs.Prelude.{Ok, Result}
+use Rattle.rules.specs.declared.Refusal.{Refusal}
 use mathlib.Core.Path.{◌≡◌, refl, ap, ◌∙◌}
 use mathlib.Core.List.{List, [], ◌∷◌, ◌++◌, map, map-append, append_assoc}
 use Prim.Native.Nat.{ℕ, ◌+◌, ◌<◌}
 use native.Mathlib.Omega.{arith}
 use lib.IntN.{ℤ, pos}
 use lib.ListN.{length, set, length-append, length-map}
-use Rattle.rules.specs.declared.Written.{Written}
-use Rattle.rules.specs.declared.Written.TheVariants.{Numbers}
 use Rattle.rules.specs.Buffers.{over, put}
 use Rattle.rules.specs.Layout.{Layout, rank, section, encode}
 use Rattle.rules.specs.Refusals.{Verdict, given}
@@ -20,12 +20,12 @@ use Rattle.forms.proofs.Packed.{flat, numbers}
 -- ---- numbers that were written
 
 -- so many of them, over the front of the result
-pub ends_given : {numbers old new : List ℤ} {n : ℕ} → n ≡ length numbers → new ≡ over numbers old → EndsIn (given numbers) old (Numbers n) new
+pub ends_given : {numbers old new : List ℤ} {n : ℕ} → n ≡ length numbers → new ≡ over numbers old → EndsIn (given numbers) old (Ok n) new
 unfolding result_after
 ends_given e f = record { answer = ap given e; result_is = f }
 
 -- what was written for one verdict was for another that is the same
-pub ends_same : {v w : Verdict (List ℤ)} {old new : List ℤ} {r : Written} → EndsIn w old r new → w ≡ v → EndsIn v old r new
+pub ends_same : {v w : Verdict (List ℤ)} {old new : List ℤ} {r : (Result ℕ Refusal)} → EndsIn w old r new → w ≡ v → EndsIn v old r new
 ends_same t e = rw e at t
 
 -- ---- the pieces
@@ -34,7 +34,7 @@ module _ {kind dense count : ℕ} {extents rows deps result r₁ r₂ r₃ r₄ 
   pub pieces_written : PiecesFit kind dense count extents rows deps result → x ≡ pos kind → y ≡ pos dense → z ≡ pos (length extents) →
       r₁ ≡ over (held x ∷ held y ∷ held z ∷ []) result → r₂ ≡ put 3 extents r₁ → r₃ ≡ set r₂ (3 + length extents) (pos count) →
       r₄ ≡ put (3 + length extents + 1) rows r₃ → r₅ ≡ put (3 + length extents + 1 + length rows) deps r₄ →
-      EndsIn (given (pieces kind dense extents count rows deps)) result (Numbers (3 + length extents + 1 + length rows + length deps)) r₅
+      EndsIn (given (pieces kind dense extents count rows deps)) result (Ok (3 + length extents + 1 + length rows + length deps)) r₅
   unfolding pieces
   pieces_written room a b c e₁ e₂ e₃ e₄ e₅ =
       let first : List ℤ = pos kind ∷ pos dense ∷ pos (length extents) ∷ [] in

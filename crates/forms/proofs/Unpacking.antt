@@ -1,4 +1,6 @@
 -- `to_dense` and `to_data_layout`: what is written of a sound record. Assumes nothing.
+use Rattle.std.specs.Prelude.{Ok, Result}
+use Rattle.rules.specs.declared.Refusal.{Refusal}
 use mathlib.Core.Path.{◌≡◌, refl, sym, ap, ◌∙◌}
 use mathlib.Core.Bool.{Bool, true, false}
 use mathlib.Core.List.{List, [], ◌++◌, map, append_assoc}
@@ -12,8 +14,6 @@ use lib.ListN.{length, take, drop}
 use lib.Seq.{drop_at, length-take-le}
 use Rattle.rules.specs.Limits.{result_size}
 use Rattle.rules.specs.declared.Head.{Head}
-use Rattle.rules.specs.declared.Written.{Written}
-use Rattle.rules.specs.declared.Written.TheVariants.{Numbers}
 use Rattle.rules.specs.Lists.{if, gather}
 use Rattle.rules.specs.Buffers.{part, over}
 use Rattle.rules.specs.Layout.{Layout, section, encode}
@@ -88,7 +88,7 @@ module _ {h : Head} {s : List ℤ} (r : SoundRecord h s) where
       record { kind_small = omega arith; dense_small = omega arith; count_small = omega arith; extents_few = omega arith; room = omega arith }
 
   -- its pieces
-  pub dense_from : {old new : List ℤ} {w : Written} →
+  pub dense_from : {old new : List ℤ} {w : (Result ℕ Refusal)} →
       EndsIn (given (pieces 0 h.rank (take (3 + h.rank - 3) (drop 3 s)) 0 [] (take (h.inputs.next - h.rows.next) (drop h.rows.next s)))) old w new →
       EndsIn (given (encode (to_dense (layout_in s)))) old w new
   unfolding to_dense gather
@@ -139,7 +139,7 @@ module _ {h : Head} {s : List ℤ} (r : SoundRecord h s) where
 
   -- the numbers of the rows
   pub rows_from_lem : {old new : List ℤ} → new ≡ over (take (h.rows.next - h.rows.first) (drop h.rows.first s)) old →
-      EndsIn (given (map pos (to_data_layout (layout_in s)))) old (Numbers (h.rows.next - h.rows.first)) new
+      EndsIn (given (map pos (to_data_layout (layout_in s)))) old (Ok (h.rows.next - h.rows.first)) new
   rows_from_lem e =
       let b = lies r in
       let g = r.readable.head in

@@ -9,14 +9,12 @@ ghost use Rattle.records.specs.Sound.{SoundRecord};
 use rules::Head;
 
 // Whether the first m numbers of a are the first n of b.
+#[tactic(auto, using(crate::proofs::Matching::fronts))]
 fn same_front(a: &[i32], m: usize, b: &[i32], n: usize) -> bool
     requires { (m ≤ length a.now) × (n ≤ length b.now) }
     ensures { result ≡ same (take m (view a.now)) (take n (view b.now)) }
 {
-    if m != n {
-        return false;
-    }
-    tables::same_numbers(a, 0, b, 0, n)
+    m == n && tables::same_numbers(a, 0, b, 0, n)
 }
 
 // Whether kind, dense axes, shape and rows are the same: each count stands before what it counts, so the numbers decide.
@@ -25,9 +23,7 @@ pub fn eq_nonzeros(a: &[i32], x: Head, b: &[i32], y: Head) -> bool
     requires sound_record_2 { SoundRecord y b.now }
     ensures { result ≡ eq_nonzeros (layout_in a.now) (layout_in b.now) }
 {
-    let left = x.rows;
-    let right = y.rows;
-    same_front(a, left.next, b, right.next)
+    same_front(a, x.rows.next, b, y.rows.next)
 }
 
 // Whether the dependencies are the same too.
@@ -36,7 +32,5 @@ pub fn eq_nonzeros_and_deps(a: &[i32], x: Head, b: &[i32], y: Head) -> bool
     requires sound_record_2 { SoundRecord y b.now }
     ensures { result ≡ eq_nonzeros_and_deps (layout_in a.now) (layout_in b.now) }
 {
-    let left = x.inputs;
-    let right = y.inputs;
-    same_front(a, left.next, b, right.next)
+    same_front(a, x.inputs.next, b, y.inputs.next)
 }

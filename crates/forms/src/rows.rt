@@ -12,9 +12,10 @@ ghost use Rattle.shapes.specs.Judged.{Judged};
 ghost use Rattle.forms.specs.Pieces.{sparse_of};
 
 use super::writing::write_record;
-use rules::{Refusal, Written};
+use rules::Refusal;
 
 // Whether the numbers are n rows of a sparse layout: natural, inside the shape and all different. Without axes all rows are the same.
+#[tactic(auto, using(crate::proofs::Fitting::fits))]
 fn rows_fit(shape: &[i32], n: usize, numbers: &[i32]) -> bool
     requires judged { Judged shape.now }
     requires numbers_len { length numbers.now ≡ n * length (shape_in shape.now) }
@@ -34,17 +35,17 @@ fn rows_fit(shape: &[i32], n: usize, numbers: &[i32]) -> bool
 }
 
 // The sparse record of a shape and n rows is written, if they fit and are not too many.
-pub fn sparse(shape: &[i32], n: usize, numbers: &[i32], res: &mut [i32]) -> Written
+pub fn sparse(shape: &[i32], n: usize, numbers: &[i32], res: &mut [i32]) -> Result<usize, Refusal>
     requires judged { Judged shape.now }
     requires numbers_len { length numbers.now ≡ n * length (shape_in shape.now) }
     requires result_size_in_bounds { result_size ≤ length res.old }
     ensures { EndsIn (in_form encode (sparse (shape_in shape.now) n numbers.now)) res.old result res.new }
 {
     if !rows_fit(shape, n, numbers) {
-        return Written::Refused(Refusal::MadeUnsound);
+        return Err(Refusal::MadeUnsound);
     }
     if rules::ENTRY_LIMIT < n {
-        return Written::Refused(Refusal::MadeTooLarge);
+        return Err(Refusal::MadeTooLarge);
     }
     let none = [0i32; 2];
     let end = 1 + shapes::rank(shape);

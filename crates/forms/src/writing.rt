@@ -11,7 +11,7 @@ ghost use Rattle.records.specs.Sound.{SoundRecord};
 ghost use Rattle.forms.specs.Pieces.{pieces, PiecesFit, no_deps};
 
 use records::EXTENTS;
-use rules::{Head, Refusal, Written};
+use rules::{Head, Refusal};
 
 // Kind, dense axes, extents, the numbers of so many rows and both dependency sections are written; the answer is how many numbers.
 pub fn write_record(
@@ -22,7 +22,7 @@ pub fn write_record(
     count: usize,
     rows: &[i32],
     deps: &[i32],
-) -> Written
+) -> Result<usize, Refusal>
     requires { PiecesFit kind dense count extents.now rows.now deps.now res.old }
     ensures { EndsIn (given (pieces kind dense extents.now count rows.now deps.now)) res.old result res.new }
 {
@@ -35,11 +35,16 @@ pub fn write_record(
     cells::store(res, at, count);
     cells::copy_into(rows, res, at + 1);
     cells::copy_into(deps, res, next);
-    Written::Numbers(next + deps.len())
+    Ok(next + deps.len())
 }
 
 // A record without rows and dependencies is written.
-fn write_shape(res: &mut [i32], kind: usize, dense: usize, extents: &[i32]) -> Written
+fn write_shape(
+    res: &mut [i32],
+    kind: usize,
+    dense: usize,
+    extents: &[i32],
+) -> Result<usize, Refusal>
     requires { PiecesFit kind dense 0 extents.now [] no_deps res.old }
     ensures { EndsIn (given (pieces kind dense extents.now 0 [] no_deps)) res.old result res.new }
 {
@@ -48,22 +53,18 @@ fn write_shape(res: &mut [i32], kind: usize, dense: usize, extents: &[i32]) -> W
 }
 
 // The dense record of the same shape and dependencies is written.
-pub fn to_dense(s: &[i32], head: Head, res: &mut [i32]) -> Written
+pub fn to_dense(s: &[i32], head: Head, res: &mut [i32]) -> Result<usize, Refusal>
     requires sound_record { SoundRecord head s.now }
     requires result_size_in_bounds { result_size ≤ length res.old }
     ensures { EndsIn (given (encode (to_dense (layout_in s.now)))) res.old result res.new }
 {
-    let rows = head.rows;
-    let inputs = head.inputs;
-    let rank = head.rank;
-    let end = EXTENTS + rank;
-    let from = rows.next;
-    let to = inputs.next;
-    write_record(res, 0, rank, &s[EXTENTS..end], 0, &s[..0], &s[from..to])
+    let end = EXTENTS + head.rank;
+    let deps = &s[head.rows.next..head.inputs.next];
+    write_record(res, 0, head.rank, &s[EXTENTS..end], 0, &s[..0], deps)
 }
 
 // The numbers of the rows are written, of a sparse record alone.
-pub fn to_data_layout(s: &[i32], head: Head, res: &mut [i32]) -> Written
+pub fn to_data_layout(s: &[i32], head: Head, res: &mut [i32]) -> Result<usize, Refusal>
     requires sound_record { SoundRecord head s.now }
     requires result_size_in_bounds { result_size ≤ length res.old }
     ensures { EndsIn (given (map pos (to_data_layout (layout_in s.now)))) res.old result res.new }
@@ -72,11 +73,11 @@ pub fn to_data_layout(s: &[i32], head: Head, res: &mut [i32]) -> Written
     let from = rows.first;
     let to = rows.next;
     cells::copy(&s[from..to], res);
-    Written::Numbers(to - from)
+    Ok(to - from)
 }
 
 // The dense record of a shape is written.
-pub fn dense(shape: &[i32], res: &mut [i32]) -> Written
+pub fn dense(shape: &[i32], res: &mut [i32]) -> Result<usize, Refusal>
     requires judged { Judged shape.now }
     requires result_size_in_bounds { result_size ≤ length res.old }
     ensures { EndsIn (given (encode (dense (shape_in shape.now)))) res.old result res.new }
@@ -87,7 +88,7 @@ pub fn dense(shape: &[i32], res: &mut [i32]) -> Written
 }
 
 // The dense record of a rank up to 4 and extents 0 is written.
-pub fn new_empty(rank: usize, res: &mut [i32]) -> Written
+pub fn new_empty(rank: usize, res: &mut [i32]) -> Result<usize, Refusal>
     requires rank_bound { rank ≤ 4 }
     requires result_size_in_bounds { result_size ≤ length res.old }
     ensures { EndsIn (given (encode (new_empty rank))) res.old result res.new }
@@ -97,7 +98,7 @@ pub fn new_empty(rank: usize, res: &mut [i32]) -> Written
 }
 
 // The dense record without axes is written.
-pub fn new_scalar(res: &mut [i32]) -> Written
+pub fn new_scalar(res: &mut [i32]) -> Result<usize, Refusal>
     requires { result_size ≤ length res.old }
     ensures { EndsIn (given (encode new_scalar)) res.old result res.new }
 {
@@ -105,17 +106,17 @@ pub fn new_scalar(res: &mut [i32]) -> Written
 }
 
 // The diagonal record of a shape is written, if it has axes and all are of one extent.
-pub fn diagonal(shape: &[i32], res: &mut [i32]) -> Written
+pub fn diagonal(shape: &[i32], res: &mut [i32]) -> Result<usize, Refusal>
     requires judged { Judged shape.now }
     requires result_size_in_bounds { result_size ≤ length res.old }
     ensures { EndsIn (in_form encode (diagonal (shape_in shape.now))) res.old result res.new }
 {
     let rank = shapes::rank(shape);
     if rank == 0 {
-        return Written::Refused(Refusal::MadeUnsound);
+        return Err(Refusal::MadeUnsound);
     }
     if !records::alike(shape, 1, rank) {
-        return Written::Refused(Refusal::MadeUnsound);
+        return Err(Refusal::MadeUnsound);
     }
     let end = 1 + rank;
     write_shape(res, 1, 0, &shape[1..end])

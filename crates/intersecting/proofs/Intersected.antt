@@ -1,12 +1,12 @@
 -- `intersect_rows` and `intersect_in`: the intersection by its way. Assumes nothing.
+use Rattle.std.specs.Prelude.{Err, Result, ⊤}
+use Rattle.rules.specs.declared.Refusal.{Refusal}
 use mathlib.Core.Path.{◌≡◌, refl, sym, ◌∙◌}
 use mathlib.Core.Bool.{Bool, true, false, ◌&&◌, ◌||◌}
 use mathlib.Core.List.{List, []}
 use Prim.Native.Nat.{ℕ}
 use lib.Dec.{ltb}
 use lib.IntN.{ℤ}
-use Rattle.rules.specs.declared.Step.{Step}
-use Rattle.rules.specs.declared.Step.TheVariants.{Refused}
 use Rattle.rules.specs.declared.Refusal.TheVariants.{ShapesDisagree, DenseAxes, MadeUnsound}
 use Rattle.rules.specs.Lists.{if, same}
 use Rattle.rules.specs.Refusals.{given, refused, number_of}
@@ -61,20 +61,20 @@ module _ {s : List ℤ} (q : RowsAsked s) where
   told = way_told a b (sym q.way) refl
 
   module _ {bars : Bool} (bars-is : bars ≡ (bars_expansion a || bars_expansion b)) where
-    pub barred : bars ≡ true → Combined intersect s s (Refused DenseAxes)
+    pub barred : bars ≡ true → Combined intersect s s (Err DenseAxes)
     barred f = combine_refused q.window DenseAxes (unfold number_of in by_barred q.window.first.sound q.window.second.sound q.shapes told (sym bars-is ∙ f))
 
     module _ (bars-not : bars ≡ false) {d : ℕ} (d-is : d ≡ lower_d a b) {meets : Bool} (meets_is : meets ≡ (ltb 0 d && (depends a d || depends b d))) where
       free : (bars_expansion a || bars_expansion b) ≡ false
       free = sym bars-is ∙ bars-not
 
-      pub meeting : meets ≡ true → Combined intersect s s (Refused DenseAxes)
+      pub meeting : meets ≡ true → Combined intersect s s (Err DenseAxes)
       meeting f =
           combine_refused q.window DenseAxes
           (unfold number_of in by_meeting q.window.first.sound q.window.second.sound q.shapes told free (rw (← d-is) (sym meets_is ∙ f)))
 
       module _ (meets-not : meets ≡ false) {lists : Bool} (lists-is : lists ≡ (lists_row a d || lists_row b d)) where
-        pub listing : lists ≡ true → Combined intersect s s (Refused MadeUnsound)
+        pub listing : lists ≡ true → Combined intersect s s (Err MadeUnsound)
         listing f =
             combine_refused q.window MadeUnsound
             (unfold number_of in by_listing q.window.first.sound q.window.second.sound q.shapes told free (rw (← d-is) (sym meets_is ∙ meets-not)) (rw (← d-is) (sym lists-is ∙ f)))
@@ -88,7 +88,7 @@ module _ {s : List ℤ} (q : RowsAsked s) where
               rw d-is
               (by_rows_lem q.window.first.sound q.window.second.sound q.shapes told free (rw (← d-is) (sym meets_is ∙ meets-not)) (rw (← d-is) (sym lists-is ∙ lists-not)))
 
-          pub common_laid : {t : List ℤ} {few : Bool} {step : Step} → CommonLaid d s t few → step ≡ made_step few → Combined intersect s t step
+          pub common_laid : {t : List ℤ} {few : Bool} {step : (Result ⊤ Refusal)} → CommonLaid d s t few → step ≡ made_step few → Combined intersect s t step
           common_laid m p = rw p (combine_told q.window makes_intersect (answer ∙ rw (← m.verdict)) m.layout m.only)
 
 -- ---- `intersect_in`
@@ -104,7 +104,7 @@ module _ {s : List ℤ} (q : OrderedWindow s) where
   abbrev y : Layout
   y = layout_at right s
 
-  pub shapes_stop : {r : Bool} → r ≡ same x.shape y.shape → r ≡ false → Combined intersect s s (Refused ShapesDisagree)
+  pub shapes_stop : {r : Bool} → r ≡ same x.shape y.shape → r ≡ false → Combined intersect s s (Err ShapesDisagree)
   shapes_stop e f = combine_refused q.window ShapesDisagree (unfold number_of in intersect_shapes x y (sym e ∙ f))
 
   module _ {r : Bool} (r-is : r ≡ same x.shape y.shape) (agree : r ≡ true) {w : Way} (w-is : w ≡ way_of x y) where
@@ -114,7 +114,7 @@ module _ {s : List ℤ} (q : OrderedWindow s) where
     pub ask_dense_lem : w ≡ Dense → DenseAsked s
     ask_dense_lem e = record { ordered = q; shapes = shapes; way = sym w-is ∙ e }
 
-    pub diagonals_made : {d : ℕ} {t : List ℤ} {few : Bool} {step : Step} → w ≡ Diagonals → d ≡ dense_at left s →
+    pub diagonals_made : {d : ℕ} {t : List ℤ} {few : Bool} {step : (Result ⊤ Refusal)} → w ≡ Diagonals → d ≡ dense_at left s →
         Made (shaped 1 d [] (merged_states s) (merged_inputs s) x) s t few → step ≡ made_step few → Combined intersect s t step
     diagonals_made e k m p =
         let told = way_told x y w-is e in

@@ -167,9 +167,6 @@ module _ {a b : Layout} (p : Sound a) (q : Sound b) (e : same a.shape b.shape â‰
         pub left_lowered : Lowered a x d
         left_lowered = lowered_is p.form kinds.0 (omega arith) free.0 bare.0
 
-        pub right_lowered : Lowered b y d
-        right_lowered = lowered_is q.form kinds.1 (omega arith) free.1 bare.1
-
         states_are : DepsOfRank (rank a) (filter_deps (common x y) (merge x.states y.states))
         states_are =
             rw ((lowered_deps_lem a d).0, (lowered_deps_lem b d).0)

@@ -10,8 +10,8 @@ use borrow.Author.Tests.{ne_eqb, lt-ltb, le-ltb}
 use lib.Dec.{ltb}
 use lib.IntN.{ℤ}
 use lib.ListN.{length, get_or, take}
-use Rattle.rules.specs.declared.Ordering.{Ordering}
-use Rattle.rules.specs.declared.Ordering.TheVariants.{Less, Equal, Greater}
+use Rattle.std.specs.declared.cmp.Ordering.{Ordering}
+use Rattle.std.specs.declared.cmp.Ordering.TheVariants.{Less, Equal, Greater}
 use Rattle.rules.specs.Lists.{none, gather, product}
 use Rattle.rules.specs.RowsInOrder.{cmp_rows, insert, sorted, sorted_few, merge, In}
 use Rattle.rules.specs.Layout.{Layout, is_diagonal, few}
@@ -212,12 +212,3 @@ module _ {other : ℕ} {s : List ℤ} (a : OtherAsked other s) where
     meets z {n} n-is f =
         f ∙ rw (keeps_axes a.window.first n (omega arith), keeps_axes a.window.second n (omega (arith, a.ranks)))
         (sym (merged_meet (layout_at left s).states (layout_at right s).states (layout_at left s).inputs (layout_at right s).inputs) ∙ barred_is z)
-
--- with no axis dense, or with some
-pub flat_common : (d : ℕ) (t : Bool) → d ≡ 0 → false ≡ ltb 0 d && t
-flat_common d t e = rw e
-
-pub dense_common : (d : ℕ) {r t : Bool} → (d ≡ 0 → ⊥) → r ≡ t → r ≡ ltb 0 d && t
-dense_common d n e = rw (lt-ltb 0 d (omega arith)) e
-
-pub ruleset laws = (deps_none, ask_last, meets_other, meets_flat, flat_common, dense_common)

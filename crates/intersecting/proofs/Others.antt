@@ -1,5 +1,7 @@
 -- `other_of` and `with_dense`: the other one than a dense one, its head and rows copied, and the dependencies of both that it holds.
 -- Assumes nothing.
+use Rattle.std.specs.Prelude.{Err, Result, ⊤}
+use Rattle.rules.specs.declared.Refusal.{Refusal}
 use mathlib.Core.Path.{◌≡◌, refl, sym, ap, ◌∙◌}
 use mathlib.Core.Bool.{Bool, true, false}
 use mathlib.Core.List.{List, []}
@@ -10,8 +12,6 @@ use native.Mathlib.Omega.{arith}
 use borrow.Author.Tests.{le-leb}
 use lib.IntN.{ℤ}
 use lib.ListN.{length, get_or}
-use Rattle.rules.specs.declared.Step.{Step}
-use Rattle.rules.specs.declared.Step.TheVariants.{Refused}
 use Rattle.rules.specs.declared.Refusal.TheVariants.{DenseAxes}
 use Rattle.rules.specs.Limits.{entry_limit}
 use Rattle.rules.specs.Lists.{if}
@@ -130,7 +130,7 @@ module _ {s : List ℤ} (q : DenseAsked s) where
 
     module _ {t : Bool} (t-is : t ≡ bars_merged a b other) where
       -- a dependency meets its dense axes
-      pub barred : t ≡ true → Combined intersect s s (Refused DenseAxes)
+      pub barred : t ≡ true → Combined intersect s s (Err DenseAxes)
       barred f =
           combine_refused window DenseAxes
           (unfold number_of in (known.rule ∙ dense_barred window.first.sound window.second.sound known.holds.sound left_long right_long (sym t-is ∙ f)))
@@ -257,7 +257,7 @@ module _ {s : List ℤ} (q : DenseAsked s) where
           layout_is : r ≡ true → layout_at target v ≡ filtered_by a b other
           layout_is g = m.layout g ∙ parts_same states_are inputs_are filter_is
 
-          pub merged : {t : Bool} → t ≡ bars_merged a b other → t ≡ false → {step : Step} → step ≡ made_step r → Combined intersect s v step
+          pub merged : {t : Bool} → t ≡ bars_merged a b other → t ≡ false → {step : (Result ⊤ Refusal)} → step ≡ made_step r → Combined intersect s v step
           merged t-is f p =
               rw p
               (combine_told window makes_intersect (answer t-is f ∙ rw (← verdict_is)) layout_is (only_then copy_wide (only_wider m.only target window_size (omega arith) (omega arith))))

@@ -6,6 +6,7 @@ ghost use Rattle.intersecting.specs.Intersecting.{depends, OtherAsked, TakeAsked
 
 use combine::LEFT_RANK;
 use parts::{DENSE, EXTENTS, INPUTS, LEFT, OTHER_SPARE, RANK, RIGHT, SPARE, STATES, TARGET};
+use rules::Kind;
 
 // Whether the layout at a place has a dependency, with its D lowered to d.
 fn has_deps(s: &[i32], at: usize, d: usize) -> bool
@@ -28,10 +29,7 @@ fn either_has_deps(window: &[i32], d: usize) -> bool
     requires { Window window.now }
     ensures { result ≡ (depends (layout_at left window.now) d || depends (layout_at right window.now) d) }
 {
-    if has_deps(window, LEFT, d) {
-        return true;
-    }
-    has_deps(window, RIGHT, d)
+    has_deps(window, LEFT, d) || has_deps(window, RIGHT, d)
 }
 
 // Whether the layout at a place is sparse with dense axes, and either one has a dependency.
@@ -39,9 +37,9 @@ pub fn bars_filter(window: &[i32], other: usize) -> bool
     requires { OtherAsked other window.now }
     ensures { result ≡ bars_merged (layout_at left window.now) (layout_at right window.now) (layout_at other window.now) }
 {
-    if cells::get(window, other) != 2 {
+    let Kind::Sparse = records::kind_at(window, other) else {
         return false;
-    }
+    };
     if cells::get(window, other + DENSE) == 0 {
         return false;
     }
@@ -54,10 +52,7 @@ pub fn bars_common(window: &[i32], d: usize) -> bool
     requires { Window window.now }
     ensures { result ≡ (ltb 0 d && (depends (layout_at left window.now) d || depends (layout_at right window.now) d)) }
 {
-    if d == 0 {
-        return false;
-    }
-    either_has_deps(window, d)
+    0 < d && either_has_deps(window, d)
 }
 
 // One list of the layout at a place, lowered to d: those entries that the target holds go to the same list of another part; false where
@@ -93,8 +88,5 @@ pub fn merge_held(window: &mut [i32], d: usize) -> bool
     requires { MergeAsked window.old }
     ensures { DepsMerged d window.old window.new result }
 {
-    if merge_list(window, d, STATES) {
-        return merge_list(window, d, INPUTS);
-    }
-    false
+    merge_list(window, d, STATES) && merge_list(window, d, INPUTS)
 }

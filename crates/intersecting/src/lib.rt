@@ -12,7 +12,7 @@ ghost use Rattle.intersecting.specs.Intersecting.{OrderedWindow, other_of, Dense
 use combine::{LEFT_DENSE, LEFT_RANK, OTHER_SPARE_ROWS, SPARE_ROWS, TARGET_ROWS, Way};
 use filter::{bars_common, bars_filter, merge_held};
 use parts::{DENSE, EXTENTS, LEFT, RANK, RIGHT, STATES, TARGET};
-use rules::{Refusal, Step};
+use rules::Refusal;
 
 // Where the other one than a dense one stands: the right layout if the left one is dense, else the left one.
 fn other_of(window: &[i32]) -> usize
@@ -20,20 +20,21 @@ fn other_of(window: &[i32]) -> usize
     ensures { result ≡ other_of (layout_at left window.now) }
 {
     if combine::is_dense(window, LEFT) {
-        return RIGHT;
+        RIGHT
+    } else {
+        LEFT
     }
-    LEFT
 }
 
 // With a dense one: the head and the rows of the other one, and the dependencies of both that it holds; 11 where its dense axes stand in
 // the way.
-fn with_dense(window: &mut [i32]) -> Step
+fn with_dense(window: &mut [i32]) -> Result<(), Refusal>
     requires { DenseAsked window.old }
     ensures { Combined intersect window.old window.new result }
 {
     let other = other_of(window);
     if bars_filter(window, other) {
-        return Step::Refused(Refusal::DenseAxes);
+        return Err(Refusal::DenseAxes);
     }
     let rank = cells::get(window, LEFT_RANK);
     cells::move_part(window, other, TARGET, STATES);
@@ -88,31 +89,31 @@ fn common_layout(window: &mut [i32], d: usize) -> bool
 
 // The intersection of both layouts by their rows: 11 where a diagonal or the common rows have dense axes in the way, 12 where a row would be
 // listed while dense axes are left.
-fn intersect_rows(window: &mut [i32]) -> Step
+fn intersect_rows(window: &mut [i32]) -> Result<(), Refusal>
     requires rows_asked { RowsAsked window.old }
     requires rising { Rising window.old }
     ensures { Combined intersect window.old window.new result }
 {
     if combine::either_bars(window) {
-        return Step::Refused(Refusal::DenseAxes);
+        return Err(Refusal::DenseAxes);
     }
     let d = combine::lower_dense(window);
     if bars_common(window, d) {
-        return Step::Refused(Refusal::DenseAxes);
+        return Err(Refusal::DenseAxes);
     }
     if combine::either_lists(window, d) {
-        return Step::Refused(Refusal::MadeUnsound);
+        return Err(Refusal::MadeUnsound);
     }
     combine::made(common_layout(window, d))
 }
 
 // The intersection of the left and the right layout, whose rows are in order, goes to the target.
-pub fn intersect_in(window: &mut [i32]) -> Step
+pub fn intersect_in(window: &mut [i32]) -> Result<(), Refusal>
     requires { OrderedWindow window.old }
     ensures { Combined intersect window.old window.new result }
 {
     if !combine::same_shapes(window) {
-        return Step::Refused(Refusal::ShapesDisagree);
+        return Err(Refusal::ShapesDisagree);
     }
     match combine::way_of(window) {
         Way::Dense => with_dense(window),

@@ -1,17 +1,16 @@
 -- A layout made in the target: its head and rows, then its dependencies. Assumes nothing.
+use Rattle.std.specs.Prelude.{Err, Ok, Result, ⊤}
+use Rattle.rules.specs.declared.Refusal.{Refusal}
 use mathlib.Core.Path.{◌≡◌, refl, sym, ap, ◌∙◌}
-use mathlib.Core.Bool.{Bool, true, false, not}
+use mathlib.Core.Bool.{Bool, true, false}
 use mathlib.Core.List.{List, []}
 use mathlib.Core.Logic.{inl}
 use Prim.Native.Nat.{ℕ, ◌+◌, ◌-◌, ◌<◌, ◌≤◌}
 use native.Mathlib.Omega.{arith}
-use borrow.Author.Tests.{not-true, not-false}
 use lib.IntN.{ℤ, pos}
 use lib.ListN.{length, get_or, set, take, drop}
 use lib.Seq.{take_all}
 use Rattle.rules.specs.declared.Refusal.TheVariants.{MadeTooLarge}
-use Rattle.rules.specs.declared.Step.{Step}
-use Rattle.rules.specs.declared.Step.TheVariants.{Done, Refused}
 use Rattle.rules.specs.Buffers.{part}
 use Rattle.rules.specs.Refusals.{given, number_of}
 use Rattle.rules.specs.Layout.{Layout, rank, few, within_product, within_sizes, made}
@@ -111,11 +110,10 @@ module _ {r n : ℕ} {places : List ℕ} {starts : List (List ℕ)} {src s : Lis
   ask_states = (omega (arith, a.rank_most), omega (arith, a.rank_most), a.room)
 
   module _ {u : List ℤ} {b : Bool} (p : Tabled (target + states_from) (r + 1) r window_size (joined States r the_blocks) s u b) where
-    pub states_over : not b ≡ true → DepsMade r the_blocks s u false
+    pub states_over : b ≡ false → DepsMade r the_blocks s u false
     states_over e =
-        let f = not-true b e in
         record {
-          verdict = rw (← p.verdict, f);
+          verdict = rw (← p.verdict, e);
           states = λ z. absurd (true_not_false z refl);
           inputs = λ z. absurd (true_not_false z refl);
           states_ready = λ z. absurd (true_not_false z refl);
@@ -123,18 +121,17 @@ module _ {r n : ℕ} {places : List ℕ} {starts : List (List ℕ)} {src s : Lis
           only = p.only;
         }
 
-    module _ (e : not b ≡ false) where
+    module _ (e : b ≡ true) where
       pub ask_inputs : (room_end (target + inputs_from) (r + 1) ≤ spare) × (r + 1 ≤ 5) × (window_size ≤ length u)
       ask_inputs = (omega (arith, a.rank_most), omega (arith, a.rank_most), rw p.only.size a.room)
 
       pub deps_made : {t : List ℤ} {c : Bool} → Tabled (target + inputs_from) (r + 1) r window_size (joined Inputs r the_blocks) u t c → DepsMade r the_blocks s t c
       unfolding joined_deps
       deps_made q =
-          let f = not-false b e in
-          let k = p.ready f in
+          let k = p.ready e in
           record {
-            verdict = rw (← p.verdict, f) q.verdict;
-            states = λ z. table_outside q.only (target + states_from) (r + 1) k.fits.few (inl (omega (arith, a.rank_most))) ∙ p.table f;
+            verdict = rw (← p.verdict, e) q.verdict;
+            states = λ z. table_outside q.only (target + states_from) (r + 1) k.fits.few (inl (omega (arith, a.rank_most))) ∙ p.table e;
             inputs = q.table;
             states_ready = λ z. ready_outside q.only k (inl (omega (arith, a.rank_most)));
             inputs_ready = q.ready;
@@ -189,7 +186,7 @@ module _ {l : Layout} {t : List ℤ} (f : Framed l t) where
     }
 
   -- what is said of it is said of the layout
-  pub said_same : (r : ℕ) (blocks : List Block) {u : List ℤ} {step : Step} → Says (made (with_joined r blocks (layout_at target t))) target u step → Says (made (with_joined r blocks l)) target u step
+  pub said_same : (r : ℕ) (blocks : List Block) {u : List ℤ} {step : (Result ⊤ Refusal)} → Says (made (with_joined r blocks (layout_at target t))) target u step → Says (made (with_joined r blocks l)) target u step
   said_same r blocks p = rw (← joined_same r blocks) p
 
 -- ---- `complete`
@@ -206,7 +203,7 @@ module _ {r n : ℕ} {places : List ℕ} {starts : List (List ℕ)} {src s : Lis
     within = sizes_kept r blocks frame a.rank_is ∙ rw (a.product, a.rows_few) (sym m.verdict)
 
     -- too many dependencies, or too large ones: 13
-    pub too_large : b ≡ false → Says (made (with_joined r blocks frame)) target t (Refused MadeTooLarge)
+    pub too_large : b ≡ false → Says (made (with_joined r blocks frame)) target t (Err MadeTooLarge)
     unfolding number_of
     too_large e = says_refused MadeTooLarge target t (form_made a.form ∙ rw (within, e))
 
@@ -241,7 +238,7 @@ module _ {r n : ℕ} {places : List ℕ} {starts : List (List ℕ)} {src s : Lis
       deps_low = rw rank_there (record { states_low = (m.states_ready e).fits.low; inputs_low = (m.inputs_ready e).fits.low })
 
       -- it is made
-      pub is_made : Says (made (with_joined r blocks frame)) target t Done
+      pub is_made : Says (made (with_joined r blocks frame)) target t (Ok tt)
       is_made =
           let is : made (with_joined r blocks frame) ≡ given (layout_at target t) = form_made a.form ∙ rw (within, e, layout_there) in
           let sound = made_sound is in

@@ -1,4 +1,6 @@
 -- Blocks joined in the way that is theirs: `whole_extents`, `join_blocks`, `write_scalar` and `concatenate_into`. Assumes nothing.
+use Rattle.std.specs.Prelude.{Err, Ok, Result, ⊤}
+use Rattle.rules.specs.declared.Refusal.{Refusal}
 use mathlib.Core.Path.{◌≡◌, refl, sym, ap, ◌∙◌}
 use mathlib.Core.Bool.{Bool, true, false}
 use mathlib.Core.List.Memᴰ
@@ -11,8 +13,6 @@ use lib.Dec.{ltb}
 use lib.IntN.{ℤ, pos}
 use lib.ListN.{length, get_or, set, take, length-map, length-set}
 use Rattle.rules.specs.declared.Refusal.TheVariants.{Unjoinable as Refuses}
-use Rattle.rules.specs.declared.Step.{Step}
-use Rattle.rules.specs.declared.Step.TheVariants.{Done, Refused}
 use Rattle.rules.specs.Limits.{rank_limit}
 use Rattle.rules.specs.Lists.{all, any, none, keep, product}
 use Rattle.rules.specs.RowsInOrder.{sorted, increasing}
@@ -118,8 +118,8 @@ module _ {r n : ℕ} {places records : List ℕ} {starts : List (List ℕ)} {s t
   formed : FormedBlocks r its
   formed = blocks_formed (handed a q.1)
 
-  pub ask_join : BlocksAt n records starts s × (r ≤ rank_limit)
-  ask_join = (at_hand (handed a q.1), a.rank_most)
+  pub ask_join : {m : ℕ} → m ≡ n → BlocksAt m records starts s × (r ≤ rank_limit)
+  ask_join e = (rw e (at_hand (handed a q.1)), a.rank_most)
 
   deps : (way_of r its ≡ Unjoinable → ⊥) → DepsAsked r n places starts s t
   deps m =
@@ -135,7 +135,7 @@ module _ {r n : ℕ} {places records : List ℕ} {starts : List (List ℕ)} {s t
     extents_four = ap (λ (k : Join). length k.extents) is ∙ fit_length 4 0 (shape_by (way_of r its) r its)
 
     -- they cannot be joined: 10
-    pub not_joined : j.way ≡ Unjoinable → (u : List ℤ) → Says (join_blocks r its) target u (Refused Refuses)
+    pub not_joined : j.way ≡ Unjoinable → (u : List ℤ) → Says (join_blocks r its) target u (Err Refuses)
     unfolding number_of
     not_joined f u = says_refused Refuses target u (join_by r its is f)
 
@@ -165,7 +165,7 @@ module _ {r n : ℕ} {places records : List ℕ} {starts : List (List ℕ)} {s t
           form = rw (dense_shape, axes_all) (form_joined formed (dense (joined_shape r its)) (length_dense r its) (dense_form r its a.rank_most));
         }
 
-        pub dense_said : {u : List ℤ} {step : Step} → Says (made (with_joined r its (bare 0 j.dense (row_at 0 r extents)))) target u step → Says (join_blocks r its) target u step
+        pub dense_said : {u : List ℤ} {step : (Result ⊤ Refusal)} → Says (made (with_joined r its (bare 0 j.dense (row_at 0 r extents)))) target u step → Says (join_blocks r its) target u step
         unfolding dense
         dense_said p = rw (join_by r its is f) (rw (dense_shape, axes_all) at p)
 
@@ -193,7 +193,7 @@ module _ {r n : ℕ} {places records : List ℕ} {starts : List (List ℕ)} {s t
                   (diagonal_form r its known.0 formed known.1 a.rank_most h));
             }
 
-        pub diagonal_said : {u : List ℤ} {step : Step} → Says (made (with_joined r its (bare 1 j.dense (row_at 0 r extents)))) target u step → Says (join_blocks r its) target u step
+        pub diagonal_said : {u : List ℤ} {step : (Result ⊤ Refusal)} → Says (made (with_joined r its (bare 1 j.dense (row_at 0 r extents)))) target u step → Says (join_blocks r its) target u step
         diagonal_said p = rw (join_by r its is f) (rw (line_shape, line_axes) at p)
 
       -- by rows
@@ -224,7 +224,7 @@ module _ {r n : ℕ} {places records : List ℕ} {starts : List (List ℕ)} {s t
               joins = form_joined formed;
             }
 
-        pub rows_said : {u : List ℤ} {step : Step} → Says (by_rows j.dense (row_at 0 r extents) r its) target u step → Says (join_blocks r its) target u step
+        pub rows_said : {u : List ℤ} {step : (Result ⊤ Refusal)} → Says (by_rows j.dense (row_at 0 r extents) r its) target u step → Says (join_blocks r its) target u step
         rows_said p = rw (join_by r its is f) (rw (rows_shape, rows_axes) at p)
 
 -- ---- the scalar: `write_scalar`
@@ -276,7 +276,7 @@ module _ {s u : List ℤ} (room : window_size ≤ length s) (none : List ℤ) (m
   unfolding layout_at dense part
   scalar_there = rw (number_stays 0 (omega arith) ∙ m.frame.kind_is, number_stays 1 (omega arith) ∙ m.frame.dense_is, rank_none, rows_none_there, states_none, inputs_none)
 
-  pub scalar_said : Says (given new_scalar) target t Done
+  pub scalar_said : Says (given new_scalar) target t (Ok tt)
   scalar_said = record {
     is = ap given scalar_there;
     holds = λ _. record {
@@ -302,10 +302,10 @@ module _ {r n : ℕ} {places records : List ℕ} {starts : List (List ℕ)} {s t
   as_many : length (blocks_of r n places s) ≡ n
   as_many = rw (length-map, length-map, length_standing a.inside)
 
-  pub none_said : n ≡ 0 → {u : List ℤ} {step : Step} → Says (given new_scalar) target u step → Says (concatenate (blocks_of r n places s) r) target u step
+  pub none_said : n ≡ 0 → {u : List ℤ} {step : (Result ⊤ Refusal)} → Says (given new_scalar) target u step → Says (concatenate (blocks_of r n places s) r) target u step
   none_said e p = rw (none_concatenated (blocks_of r n places s) r (as_many ∙ e)) p
 
-  pub some_said : (n ≡ 0 → ⊥) → {u : List ℤ} {step : Step} → Says (join_blocks r (blocks_of r n places s)) target u step → Says (concatenate (blocks_of r n places s) r) target u step
+  pub some_said : (n ≡ 0 → ⊥) → {u : List ℤ} {step : (Result ⊤ Refusal)} → Says (join_blocks r (blocks_of r n places s)) target u step → Says (concatenate (blocks_of r n places s) r) target u step
   some_said f p = rw (some_concatenated (blocks_of r n places s) r (omega (arith, as_many))) p
 
   pub ask_some : (n ≡ 0 → ⊥) → JoinAsked r n places records starts s t × (0 < n)

@@ -1,18 +1,18 @@
 -- The layout of each way: with no rows, along the diagonal, and by rows. Assumes nothing.
+use Rattle.std.specs.Prelude.{Err, Result, ⊤}
+use Rattle.rules.specs.declared.Refusal.{Refusal}
 use mathlib.Core.Path.{◌≡◌, refl, sym, ap, ◌∙◌}
-use mathlib.Core.Bool.{Bool, true, false, not, ◌&&◌}
+use mathlib.Core.Bool.{Bool, true, false, ◌&&◌}
 use mathlib.Core.List.{List, []}
 use mathlib.Core.Logic.{inl, inr}
 use Prim.Native.Nat.{ℕ, ◌+◌, ◌-◌, ◌<◌, ◌≤◌}
 use native.Mathlib.Omega.{arith}
-use borrow.Author.Tests.{not-true, not-false, leb-true, eq-eqb, ne_eqb}
+use borrow.Author.Tests.{leb-true, eq-eqb, ne_eqb}
 use lib.Dec.{eqb}
 use lib.IntN.{ℤ, pos}
 use lib.ListN.{length, get_or, set, length-set}
 use lib.Seq.{get_or-set_same}
 use Rattle.rules.specs.declared.Refusal.TheVariants.{MadeUnsound, MadeTooLarge}
-use Rattle.rules.specs.declared.Step.{Step}
-use Rattle.rules.specs.declared.Step.TheVariants.{Refused}
 use Rattle.rules.specs.Lists.{if, all, product}
 use Rattle.rules.specs.Limits.{product_limit}
 use Rattle.rules.specs.RowsInOrder.{sorted, increasing_nil}
@@ -67,17 +67,17 @@ module _ {kind dense : ℕ} (extents : List ℤ) {r n : ℕ} {places : List ℕ}
 
   module _ {b : Bool} (told : b ≡ within_product (row_at 0 r extents)) where
     -- the product is over the limit: 13
-    pub bare_over : not b ≡ true → (t : List ℤ) → Says (made (with_joined r bare_blocks bare_frame)) target t (Refused MadeTooLarge)
+    pub bare_over : b ≡ false → (t : List ℤ) → Says (made (with_joined r bare_blocks bare_frame)) target t (Err MadeTooLarge)
     unfolding number_of
     bare_over e t =
         says_refused MadeTooLarge target t
-        (sizes_over (with_joined r bare_blocks bare_frame) (form_made a.form) (sizes_kept r bare_blocks bare_frame bare_rank ∙ rw (← told, not-true b e)))
+        (sizes_over (with_joined r bare_blocks bare_frame) (form_made a.form) (sizes_kept r bare_blocks bare_frame bare_rank ∙ rw (← told, e)))
 
-    module _ (e : not b ≡ false) {t : List ℤ} (m : FrameMade bare_frame s t) where
+    module _ (e : b ≡ true) {t : List ℤ} (m : FrameMade bare_frame s t) where
       pub ask_bare : CompleteAsked r n places starts src t
-      ask_bare = ask_complete m.frame (later_deps a.deps m.size) bare_rank a.form (sym told ∙ not-false b e) refl
+      ask_bare = ask_complete m.frame (later_deps a.deps m.size) bare_rank a.form (sym told ∙ e) refl
 
-  pub bare_said : {t u : List ℤ} {step : Step} → FrameMade bare_frame s t → Says (made (with_joined r bare_blocks (layout_at target t))) target u step →
+  pub bare_said : {t u : List ℤ} {step : (Result ⊤ Refusal)} → FrameMade bare_frame s t → Says (made (with_joined r bare_blocks (layout_at target t))) target u step →
       Says (made (with_joined r bare_blocks bare_frame)) target u step
   bare_said m p = said_same m.frame r bare_blocks p
 
@@ -91,7 +91,7 @@ module _ {dense : ℕ} (extents : List ℤ) {r n : ℕ} {places : List ℕ} {sta
   line_rank = row_length 0 r extents (omega (arith, a.four, a.deps.rank_most))
 
   -- no axis is left for it: 12
-  pub line_none : r ≡ dense → (t : List ℤ) → Says (made (with_joined r (blocks_of r n places src) line)) target t (Refused MadeUnsound)
+  pub line_none : r ≡ dense → (t : List ℤ) → Says (made (with_joined r (blocks_of r n places src) line)) target t (Err MadeUnsound)
   unfolding number_of
   line_none e t =
       let none : length (row_at 0 r extents) - dense ≡ 0 = omega (arith, line_rank) in
@@ -126,14 +126,14 @@ module _ {dense : ℕ} (extents : List ℤ) {r n : ℕ} {places : List ℕ} {sta
     ask_rows = (omega (arith, a.rank_most), omega (arith, a.rank_most), rw m.size a.room)
 
     module _ {u : List ℤ} {b : Bool} (p : Tabled (target + rows_from) (r - dense) (r - dense) window_size (joined Rows r row_blocks) t u b) where
-      pub rows_over : not b ≡ true → RowsMade dense extents r row_blocks s u false
+      pub rows_over : b ≡ false → RowsMade dense extents r row_blocks s u false
       rows_over e = record {
-        verdict = sym (not-true b e) ∙ p.verdict;
+        verdict = sym e ∙ p.verdict;
         frame = λ z. absurd (true_not_false z refl);
         size = p.only.size ∙ m.size;
       }
 
-      module _ (e : not b ≡ false) where
+      module _ (e : b ≡ true) where
         number_same : (k : ℕ) → k < 7 → get_or (view u) (target + k) 0 ≡ get_or (view t) (target + k) 0
         number_same k h = view_outside p.only (target + k) (inl (omega arith))
 
@@ -145,19 +145,19 @@ module _ {dense : ℕ} (extents : List ℤ) {r n : ℕ} {places : List ℕ} {sta
               dense_is = number_same 1 (omega arith) ∙ f.dense_is;
               rank_is = number_same 2 (omega arith) ∙ f.rank_is;
               shape_is = row_outside p.only (target + extents_from) (length (row_at 0 r extents)) (inl (omega (arith, shape_long, a.rank_most))) ∙ f.shape_is;
-              rows_are = rw shape_long (p.table (not-false b e));
-              few = (p.ready (not-false b e)).fits.few;
+              rows_are = rw shape_long (p.table e);
+              few = (p.ready e).fits.few;
             }
 
         module _ {c q : ℕ} (count : c ≡ get_or (view u) (target + rows_from) 0) (size : q ≡ product (row_at 0 r extents)) where
           count_is : length (sorted (joined Rows r row_blocks)) ≡ c
-          count_is = ap length (sym (p.table (not-false b e))) ∙ table_length (target + rows_from) (r - dense) u ∙ sym count
+          count_is = ap length (sym (p.table e)) ∙ table_length (target + rows_from) (r - dense) u ∙ sym count
 
           -- they do not number the product
           pub rows_stay : (c ≡ q → ⊥) → RowsMade dense extents r row_blocks s u true
           unfolding dense_if_full
           rows_stay d = record {
-            verdict = sym (not-false b e) ∙ p.verdict;
+            verdict = sym e ∙ p.verdict;
             frame = λ _. rw (count_is, ← size, ne_eqb c q d) rows_framed;
             size = p.only.size ∙ m.size;
           }
@@ -215,7 +215,7 @@ module _ {dense : ℕ} (extents : List ℤ) {r n : ℕ} {places : List ℕ} {sta
             pub rows_turn : RowsMade dense extents r row_blocks s v true
             unfolding dense_if_full
             rows_turn = record {
-              verdict = sym (not-false b e) ∙ p.verdict;
+              verdict = sym e ∙ p.verdict;
               frame = λ _. rw (count_is, ← size, eq-eqb c q d) dense_framed;
               size = third.size ∙ length-set first (target + 1) (pos r) ∙ length-set u target (pos 0) ∙ p.only.size ∙ m.size;
             }
@@ -250,13 +250,13 @@ module _ {dense : ℕ} (extents : List ℤ) {r n : ℕ} {places : List ℕ} {sta
 
   module _ {b : Bool} (told : b ≡ within_product (row_at 0 r extents)) where
     -- the product is over the limit: 13
-    pub product_over : not b ≡ true → (t : List ℤ) → Says (by_rows dense (row_at 0 r extents) r its_blocks) target t (Refused MadeTooLarge)
+    pub product_over : b ≡ false → (t : List ℤ) → Says (by_rows dense (row_at 0 r extents) r its_blocks) target t (Err MadeTooLarge)
     unfolding number_of
-    product_over e t = says_refused MadeTooLarge target t (over (rw (← told, not-true b e)))
+    product_over e t = says_refused MadeTooLarge target t (over (rw (← told, e)))
 
-    module _ (e : not b ≡ false) where
+    module _ (e : b ≡ true) where
       inside : within_product (row_at 0 r extents) ≡ true
-      inside = sym told ∙ not-false b e
+      inside = sym told ∙ e
 
       pub ask_add : RowsAsked dense extents r n places starts src s
       ask_add = record { rows = a.rows; four = a.four; dense_most = a.dense_most; rank_most = a.deps.rank_most; product = inside; room = a.deps.room }
@@ -266,13 +266,13 @@ module _ {dense : ℕ} (extents : List ℤ) {r n : ℕ} {places : List ℕ} {sta
         few_told = sym (m.verdict ∙ rw (a.small inside))
 
         -- the rows are too many: 13
-        pub rows_many : not c ≡ true → Says (by_rows dense (row_at 0 r extents) r its_blocks) target t (Refused MadeTooLarge)
+        pub rows_many : c ≡ false → Says (by_rows dense (row_at 0 r extents) r its_blocks) target t (Err MadeTooLarge)
         unfolding number_of
-        rows_many f = says_refused MadeTooLarge target t (over (rw (inside, few_told, not-true c f)))
+        rows_many f = says_refused MadeTooLarge target t (over (rw (inside, few_told, f)))
 
-        module _ (f : not c ≡ false) where
+        module _ (f : c ≡ true) where
           few_rows : few (sorted (joined Rows r its_blocks)) ≡ true
-          few_rows = few_told ∙ not-false c f
+          few_rows = few_told ∙ f
 
           abbrev whole : Layout
           whole = dense_if_full its_rows
@@ -319,7 +319,7 @@ module _ {dense : ℕ} (extents : List ℤ) {r n : ℕ} {places : List ℕ} {sta
           pub ask_whole : CompleteAsked r n places starts src t
           ask_whole =
               let e : rank whole ≡ r = ap length shape_is ∙ rows_rank in
-              ask_complete (m.frame (not-false c f)) (later_deps a.deps m.size) e (a.joins whole e form) (ap within_product shape_is ∙ inside) few_left
+              ask_complete (m.frame f) (later_deps a.deps m.size) e (a.joins whole e form) (ap within_product shape_is ∙ inside) few_left
 
-          pub rows_said : {u : List ℤ} {step : Step} → Says (made (with_joined r its_blocks (layout_at target t))) target u step → Says (by_rows dense (row_at 0 r extents) r its_blocks) target u step
-          rows_said q = rw given_is (said_same (m.frame (not-false c f)) r its_blocks q)
+          pub rows_said : {u : List ℤ} {step : (Result ⊤ Refusal)} → Says (made (with_joined r its_blocks (layout_at target t))) target u step → Says (by_rows dense (row_at 0 r extents) r its_blocks) target u step
+          rows_said q = rw given_is (said_same (m.frame f) r its_blocks q)

@@ -1,10 +1,10 @@
 // The layout that blocks are joined to, in the target of a window.
+ghost use Rattle.std.specs.Prelude.{Ok};
 ghost use Rattle.std.specs.Prelude.{◌≡◌, ◌+◌, ◌-◌, ◌<◌, ◌≤◌, pos, length, set};
 ghost use Rattle.rules.specs.Layout.{made};
 ghost use Rattle.rules.specs.CountsAndForms.{new_scalar};
 ghost use Rattle.rules.specs.Concatenate.{join_blocks, concatenate};
 ghost use Rattle.rules.specs.Refusals.{given};
-ghost use Rattle.rules.specs.declared.Step.TheVariants.{Done};
 ghost use Rattle.cells.specs.View.{view, Low};
 ghost use Rattle.tables.specs.Rows.{row_at};
 ghost use Rattle.parts.specs.Parts.{window_size, target, rows_from, layout_at};
@@ -14,8 +14,9 @@ ghost use Rattle.join.specs.Assembling.{bare, with_joined, by_rows, FrameAsked, 
 
 use blocks::Way;
 use entries::{Listed, merge_blocks};
+use lists::Places;
 use parts::{DENSE, INPUTS, ROWS, SPARE, STATES, TARGET};
-use rules::{Refusal, Step};
+use rules::Refusal;
 
 const TARGET_DENSE: usize = TARGET + DENSE;
 
@@ -37,21 +38,19 @@ fn write_frame(window: &mut [i32], kind: usize, dense: usize, extents: [i32; 4],
 // The dependencies of all blocks go to the target; false where they are too many, or too large.
 fn add_deps(
     s: &[i32],
-    places: [usize; 16],
-    n: usize,
+    places: &Places,
     starts: [[usize; 4]; 16],
     rank: usize,
     window: &mut [i32],
 ) -> bool
-    requires { DepsAsked rank n places starts s.now window.old }
-    ensures { DepsMade rank (blocks_of rank n places s.now) window.old window.new result }
+    requires { DepsAsked rank places.now.count places.now.at starts s.now window.old }
+    ensures { DepsMade rank (blocks_of rank places.now.count places.now.at s.now) window.old window.new result }
 {
     let w = rank + 1;
     if !merge_blocks(
         Listed::States,
         s,
         places,
-        n,
         starts,
         rank,
         w,
@@ -64,7 +63,6 @@ fn add_deps(
         Listed::Inputs,
         s,
         places,
-        n,
         starts,
         rank,
         w,
@@ -76,61 +74,58 @@ fn add_deps(
 // The head and the rows in the target become a layout with the dependencies of all blocks.
 fn complete(
     s: &[i32],
-    places: [usize; 16],
-    n: usize,
+    places: &Places,
     starts: [[usize; 4]; 16],
     rank: usize,
     window: &mut [i32],
-) -> Step
-    requires { CompleteAsked rank n places starts s.now window.old }
-    ensures { Says (made (with_joined rank (blocks_of rank n places s.now) (layout_at target window.old))) target window.new result }
+) -> Result<(), Refusal>
+    requires { CompleteAsked rank places.now.count places.now.at starts s.now window.old }
+    ensures { Says (made (with_joined rank (blocks_of rank places.now.count places.now.at s.now) (layout_at target window.old))) target window.new result }
 {
-    if add_deps(s, places, n, starts, rank, window) {
-        return Step::Done;
+    if add_deps(s, places, starts, rank, window) {
+        return Ok(());
     }
-    Step::Refused(Refusal::MadeTooLarge)
+    Err(Refusal::MadeTooLarge)
 }
 
 // The blocks become a layout with a head, no rows and the dependencies of all of them.
 fn join_bare(
     s: &[i32],
-    places: [usize; 16],
-    n: usize,
+    places: &Places,
     starts: [[usize; 4]; 16],
     kind: usize,
     dense: usize,
     extents: [i32; 4],
     rank: usize,
     window: &mut [i32],
-) -> Step
-    requires { BareAsked kind dense extents rank n places starts s.now window.old }
-    ensures { Says (made (with_joined rank (blocks_of rank n places s.now) (bare kind dense (row_at 0 rank extents)))) target window.new result }
+) -> Result<(), Refusal>
+    requires { BareAsked kind dense extents rank places.now.count places.now.at starts s.now window.old }
+    ensures { Says (made (with_joined rank (blocks_of rank places.now.count places.now.at s.now) (bare kind dense (row_at 0 rank extents)))) target window.new result }
 {
     if !axes::within_product(&extents, 0, rank) {
-        return Step::Refused(Refusal::MadeTooLarge);
+        return Err(Refusal::MadeTooLarge);
     }
     write_frame(window, kind, dense, extents, rank);
-    complete(s, places, n, starts, rank, window)
+    complete(s, places, starts, rank, window)
 }
 
 // The blocks become a diagonal: 12 where no axis is left for it.
 fn join_diagonal(
     s: &[i32],
-    places: [usize; 16],
-    n: usize,
+    places: &Places,
     starts: [[usize; 4]; 16],
     dense: usize,
     extents: [i32; 4],
     rank: usize,
     window: &mut [i32],
-) -> Step
-    requires { DiagonalAsked dense extents rank n places starts s.now window.old }
-    ensures { Says (made (with_joined rank (blocks_of rank n places s.now) (bare 1 dense (row_at 0 rank extents)))) target window.new result }
+) -> Result<(), Refusal>
+    requires { DiagonalAsked dense extents rank places.now.count places.now.at starts s.now window.old }
+    ensures { Says (made (with_joined rank (blocks_of rank places.now.count places.now.at s.now) (bare 1 dense (row_at 0 rank extents)))) target window.new result }
 {
     if rank == dense {
-        return Step::Refused(Refusal::MadeUnsound);
+        return Err(Refusal::MadeUnsound);
     }
-    join_bare(s, places, n, starts, 1, dense, extents, rank, window)
+    join_bare(s, places, starts, 1, dense, extents, rank, window)
 }
 
 // The layout in the target becomes dense, with no rows.
@@ -146,23 +141,21 @@ fn turn_dense(window: &mut [i32], rank: usize)
 // The rows of all blocks go to the target, which is dense if they number the product; false where they are too many.
 fn add_rows(
     s: &[i32],
-    places: [usize; 16],
-    n: usize,
+    places: &Places,
     starts: [[usize; 4]; 16],
     dense: usize,
     extents: [i32; 4],
     rank: usize,
     window: &mut [i32],
 ) -> bool
-    requires { RowsAsked dense extents rank n places starts s.now window.old }
-    ensures { RowsMade dense extents rank (blocks_of rank n places s.now) window.old window.new result }
+    requires { RowsAsked dense extents rank places.now.count places.now.at starts s.now window.old }
+    ensures { RowsMade dense extents rank (blocks_of rank places.now.count places.now.at s.now) window.old window.new result }
 {
     write_frame(window, 2, dense, extents, rank);
     if !merge_blocks(
         Listed::Rows,
         s,
         places,
-        n,
         starts,
         rank,
         rank - dense,
@@ -180,24 +173,23 @@ fn add_rows(
 // The blocks are joined by their rows, and are dense if these number the product.
 fn join_rows(
     s: &[i32],
-    places: [usize; 16],
-    n: usize,
+    places: &Places,
     starts: [[usize; 4]; 16],
     dense: usize,
     extents: [i32; 4],
     rank: usize,
     window: &mut [i32],
-) -> Step
-    requires { SparseAsked dense extents rank n places starts s.now window.old }
-    ensures { Says (by_rows dense (row_at 0 rank extents) rank (blocks_of rank n places s.now)) target window.new result }
+) -> Result<(), Refusal>
+    requires { SparseAsked dense extents rank places.now.count places.now.at starts s.now window.old }
+    ensures { Says (by_rows dense (row_at 0 rank extents) rank (blocks_of rank places.now.count places.now.at s.now)) target window.new result }
 {
     if !axes::within_product(&extents, 0, rank) {
-        return Step::Refused(Refusal::MadeTooLarge);
+        return Err(Refusal::MadeTooLarge);
     }
-    if !add_rows(s, places, n, starts, dense, extents, rank, window) {
-        return Step::Refused(Refusal::MadeTooLarge);
+    if !add_rows(s, places, starts, dense, extents, rank, window) {
+        return Err(Refusal::MadeTooLarge);
     }
-    complete(s, places, n, starts, rank, window)
+    complete(s, places, starts, rank, window)
 }
 
 // Extents as a slice holds them.
@@ -205,6 +197,7 @@ fn whole_extents(e: [usize; 4]) -> [i32; 4]
     requires { Low e × (length e ≡ 4) }
     ensures { view result ≡ e }
 {
+    // Not `e.map(cells::whole)`: its `map-requires` did not close, as std has no lemma on the items of an array.
     [
         cells::whole(e[0]),
         cells::whole(e[1]),
@@ -216,36 +209,33 @@ fn whole_extents(e: [usize; 4]) -> [i32; 4]
 // One block or more are joined to one layout in the target.
 fn join_blocks(
     s: &[i32],
-    places: [usize; 16],
-    records: [usize; 16],
-    n: usize,
+    places: &Places,
+    records: &Places,
     starts: [[usize; 4]; 16],
     rank: usize,
     window: &mut [i32],
-) -> Step
-    requires { JoinAsked rank n places records starts s.now window.old × (0 < n) }
-    ensures { Says (join_blocks rank (blocks_of rank n places s.now)) target window.new result }
+) -> Result<(), Refusal>
+    requires join_asked { JoinAsked rank places.now.count places.now.at records.now.at starts s.now window.old × (0 < places.now.count) }
+    requires counts { records.now.count ≡ places.now.count }
+    ensures { Says (join_blocks rank (blocks_of rank places.now.count places.now.at s.now)) target window.new result }
 {
-    let join = blocks::join_of(s, records, n, starts, rank);
-    let way = join.way;
+    let join = blocks::join_of(s, records, starts, rank);
     let dense = join.dense;
-    let e = join.extents;
-    let extents = whole_extents(e);
-    match way {
-        Way::Unjoinable => Step::Refused(Refusal::Unjoinable),
-        Way::Dense => join_bare(s, places, n, starts, 0, dense, extents, rank, window),
-        Way::Diagonal => join_diagonal(s, places, n, starts, dense, extents, rank, window),
-        Way::Rows => join_rows(s, places, n, starts, dense, extents, rank, window),
+    let extents = whole_extents(join.extents);
+    match join.way {
+        Way::Unjoinable => Err(Refusal::Unjoinable),
+        Way::Dense => join_bare(s, places, starts, 0, dense, extents, rank, window),
+        Way::Diagonal => join_diagonal(s, places, starts, dense, extents, rank, window),
+        Way::Rows => join_rows(s, places, starts, dense, extents, rank, window),
     }
 }
 
 // The scalar goes to the target.
 fn write_scalar(window: &mut [i32])
     requires { window_size ≤ length window.old }
-    ensures { Says (given new_scalar) target window.new Done }
+    ensures { Says (given new_scalar) target window.new (Ok tt) }
 {
-    let none = [0i32; 4];
-    write_frame(window, 0, 0, none, 0);
+    write_frame(window, 0, 0, [0; 4], 0);
     cells::store(window, TARGET_STATES, 0);
     cells::store(window, TARGET_INPUTS, 0);
 }
@@ -253,19 +243,19 @@ fn write_scalar(window: &mut [i32])
 // Blocks are joined to one layout in the target; no blocks are the scalar.
 pub fn concatenate_into(
     s: &[i32],
-    places: [usize; 16],
-    records: [usize; 16],
-    n: usize,
+    places: &Places,
+    records: &Places,
     starts: [[usize; 4]; 16],
     rank: usize,
     window: &mut [i32],
-) -> Step
-    requires { JoinAsked rank n places records starts s.now window.old }
-    ensures { Says (concatenate (blocks_of rank n places s.now) rank) target window.new result }
+) -> Result<(), Refusal>
+    requires join_asked { JoinAsked rank places.now.count places.now.at records.now.at starts s.now window.old }
+    requires counts { records.now.count ≡ places.now.count }
+    ensures { Says (concatenate (blocks_of rank places.now.count places.now.at s.now) rank) target window.new result }
 {
-    if n == 0 {
+    if places.count == 0 {
         write_scalar(window);
-        return Step::Done;
+        return Ok(());
     }
-    join_blocks(s, places, records, n, starts, rank, window)
+    join_blocks(s, places, records, starts, rank, window)
 }

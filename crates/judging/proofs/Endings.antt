@@ -1,4 +1,5 @@
 -- How a call ends that is lent a result and a working buffer, over any reasons behind 1 and 2 and any step behind them. Assumes nothing.
+use Rattle.std.specs.Prelude.{Err, Result, ⊤}
 use mathlib.Core.Path.{◌≡◌, refl, sym, subst}
 use mathlib.Core.Bool.{Bool, true, false, ◌||◌}
 use mathlib.Core.List.{List, [], ◌∷◌}
@@ -9,9 +10,6 @@ use lib.Dec.{eqb}
 use lib.IntN.{ℤ}
 use lib.ListN.{length}
 use Rattle.rules.specs.declared.Refusal.{Refusal}
-use Rattle.rules.specs.declared.Step.{Step}
-use Rattle.rules.specs.declared.Written.{Written}
-use Rattle.rules.specs.declared.Written.TheVariants.{Refused}
 use Rattle.rules.specs.Limits.{result_size, work_size}
 use Rattle.rules.specs.Buffers.{over, zeros}
 use Rattle.rules.specs.Refusals.{Verdict, given, refused, in_form, number_of, Reason, ◌when◌, ◌then◌, lowest}
@@ -52,7 +50,7 @@ module _ (told : Bool) (rest : List Reason) (v : Verdict Layout) (result work : 
   call = lowest (size_reasons told (length result) (length work) rest) then λ _. v
 
   -- 1 or 2: both buffers stay
-  pub ends_early : {why : Refusal} → SizesRefused told (length result) (length work) why → Ends (in_form encode call) result work (Refused why) result work
+  pub ends_early : {why : Refusal} → SizesRefused told (length result) (length work) why → Ends (in_form encode call) result work (Err why) result work
   unfolding result_after work_after
   ends_early p =
       let e = early told _ rest p.is in
@@ -60,14 +58,14 @@ module _ (told : Bool) (rest : List Reason) (v : Verdict Layout) (result work : 
 
   module _ (k : SizesKept told (length result) (length work)) where
     -- another reason: the working buffer is cleared
-    pub ends_late : Reasons AboveTwo rest → {why : Refusal} {r : Written} {work' : List ℤ} → lowest rest ≡ refused (number_of why) →
-        (r ≡ Refused why) × (work' ≡ over (zeros work_size) work) → Ends (in_form encode call) result work r result work'
+    pub ends_late : Reasons AboveTwo rest → {why : Refusal} {r : (Result ℕ Refusal)} {work' : List ℤ} → lowest rest ≡ refused (number_of why) →
+        (r ≡ Err why) × (work' ≡ over (zeros work_size) work) → Ends (in_form encode call) result work r result work'
     ends_late late {why} e f =
         let is : call ≡ refused (number_of why) = rw (others rest k, e) in
         call_refused is (number_late rest late e) (only_same 0 work_size work) f
 
     -- no reason: what the step says is the answer
-    pub ends_done : lowest rest ≡ given tt → Late v → {step : Step} {at : ℕ} {now result' work' : List ℤ} {r : Written} →
+    pub ends_done : lowest rest ≡ given tt → Late v → {step : (Result ⊤ Refusal)} {at : ℕ} {now result' work' : List ℤ} {r : (Result ℕ Refusal)} →
         Says v at now step → Only 0 work_size work now → Finished step at now result r work' result' →
         Ends (in_form encode call) result work r result' work'
     ends_done e late says only f =

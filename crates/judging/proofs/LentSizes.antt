@@ -1,4 +1,5 @@
 -- The ways out of `judge_sizes`, and what they tell. Assumes nothing.
+use Rattle.std.specs.Prelude.{Err, Ok, Result, ⊤}
 use mathlib.Core.Path.{◌≡◌, ◌∙◌, subst}
 use mathlib.Core.Bool.{Bool, true, false, ◌||◌}
 use Prim.Native.Nat.{ℕ, ◌<◌, ◌≤◌}
@@ -7,8 +8,6 @@ use Rattle.rules.specs.declared.Refusal.{Refusal}
 use Rattle.rules.specs.declared.Refusal.TheVariants.{OverCount, ShortBuffer}
 use Rattle.rules.specs.Limits.{result_size, work_size}
 use Rattle.rules.specs.Refusals.{number_of, lowest}
-use Rattle.judging.specs.declared.Sizes.{Sizes}
-use Rattle.judging.specs.declared.Sizes.TheVariants.{Kept, Refused}
 use Rattle.judging.specs.LentSizes.{SizesKept, SizesRefused, SizesAre}
 
 -- ---- one test after the other
@@ -38,19 +37,19 @@ pub ruleset ways = (over_count_lem, short_result_lem, short_work_lem, sizes_kept
 
 -- ---- what was judged, by the case that was met
 
-module _ {over : Bool} {result work : ℕ} {r : Sizes} (p : SizesAre over result work r) where
-  pub kept_sizes : r ≡ Kept → SizesKept over result work
+module _ {over : Bool} {result work : ℕ} {r : (Result ⊤ Refusal)} (p : SizesAre over result work r) where
+  pub kept_sizes : r ≡ Ok tt → SizesKept over result work
   kept_sizes e = subst (SizesAre over result work) e p
 
-  pub refused_sizes : {why : Refusal} → r ≡ Refused why → SizesRefused over result work why
+  pub refused_sizes : {why : Refusal} → r ≡ Err why → SizesRefused over result work why
   refused_sizes e = subst (SizesAre over result work) e p
 
 -- whether a count is over its limit, as it was told
-module _ {x o : Bool} (o_is : o ≡ x) {result work : ℕ} {r : Sizes} (p : SizesAre o result work r) where
-  pub kept_told : r ≡ Kept → SizesKept x result work
+module _ {x o : Bool} (o_is : o ≡ x) {result work : ℕ} {r : (Result ⊤ Refusal)} (p : SizesAre o result work r) where
+  pub kept_told : r ≡ Ok tt → SizesKept x result work
   kept_told e = subst (λ (t : Bool). SizesKept t result work) o_is (kept_sizes p e)
 
-  pub refused_told : {why : Refusal} → r ≡ Refused why → SizesRefused x result work why
+  pub refused_told : {why : Refusal} → r ≡ Err why → SizesRefused x result work why
   refused_told {why} e = subst (λ (t : Bool). SizesRefused t result work why) o_is (refused_sizes p e)
 
 -- and told by two tests

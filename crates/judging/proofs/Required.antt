@@ -6,7 +6,7 @@ use Prim.Native.Nat.{ℕ}
 use borrow.Author.Tests.{not-false}
 use lib.IntN.{ℤ}
 use lib.ListN.{length}
-use Rattle.rules.specs.declared.Ordering.{Ordering}
+use Rattle.std.specs.declared.cmp.Ordering.{Ordering}
 use Rattle.rules.specs.RowsInOrder.{cmp_rows}
 use Rattle.rules.specs.Record.{good_shape, naturals}
 use Rattle.rules.specs.Arguments.{over_shape, good_index}

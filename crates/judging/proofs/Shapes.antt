@@ -1,4 +1,5 @@
 -- A shape beside a result: the ways out of `judge_shape`, and of the calls that ask it. Assumes nothing.
+use Rattle.std.specs.Prelude.{Err, Ok, Result, ⊤}
 use mathlib.Core.Path.{◌≡◌, sym, ◌∙◌, subst}
 use mathlib.Core.Bool.{Bool, true, false, not, ◌&&◌}
 use mathlib.Core.List.{List, [], ◌∷◌}
@@ -11,16 +12,12 @@ use lib.Signed.{non_neg}
 use Rattle.rules.specs.Limits.{result_size}
 use Rattle.rules.specs.declared.Refusal.{Refusal}
 use Rattle.rules.specs.declared.Refusal.TheVariants.{OverCount, ShortBuffer, WrongArgument}
-use Rattle.rules.specs.declared.Written.{Written}
-use Rattle.rules.specs.declared.Written.TheVariants.{Refused as NotWritten}
 use Rattle.rules.specs.Layout.{Layout, encode}
 use Rattle.rules.specs.Refusals.{Verdict, refused, in_form, number_of, ◌when◌, ◌then◌, lowest}
 use Rattle.rules.specs.Record.{natural, good_shape, shape_in}
 use Rattle.rules.specs.Arguments.{over_shape, short_result}
 use Rattle.rules.specs.Endings.{EndsIn}
 use Rattle.rules.specs.CountsAndForms.{from_shape, sparse_call}
-use Rattle.judging.specs.declared.Shape.{Shape}
-use Rattle.judging.specs.declared.Shape.TheVariants.{Good, Refused}
 use Rattle.judging.specs.Judging.{shape_reasons, ShapeGood, ShapeIs}
 use Rattle.judging.proofs.Required.{shape_judged}
 use Rattle.judging.proofs.Results.{ends_refused, ends_stepped}
@@ -58,22 +55,22 @@ pub ruleset ways = (shape_over, room_short, shape_wrong, shape_good)
 
 -- ---- what was judged, by the case that was met
 
-module _ (s : List ℤ) (size : ℕ) {r : Shape} (p : ShapeIs s size r) where
-  pub good_shape_lem : r ≡ Good → ShapeGood s size
+module _ (s : List ℤ) (size : ℕ) {r : (Result ⊤ Refusal)} (p : ShapeIs s size r) where
+  pub good_shape_lem : r ≡ Ok tt → ShapeGood s size
   good_shape_lem e = subst (ShapeIs s size) e p
 
-  pub shape_refused : {why : Refusal} → r ≡ Refused why → lowest (shape_reasons s size) ≡ refused (number_of why)
+  pub shape_refused : {why : Refusal} → r ≡ Err why → lowest (shape_reasons s size) ≡ refused (number_of why)
   shape_refused e = subst (ShapeIs s size) e p
 
 -- a call that judges a shape alone
 module _ (f : List ℕ → Verdict Layout) (s : List ℤ) (size : ℕ) where
   -- is refused
-  pub from_refused : {r : Shape} {why : Refusal} {old : List ℤ} → ShapeIs s size r → r ≡ Refused why →
-      EndsIn (in_form encode (from_shape f s size)) old (NotWritten why) old
+  pub from_refused : {r : (Result ⊤ Refusal)} {why : Refusal} {old : List ℤ} → ShapeIs s size r → r ≡ Err why →
+      EndsIn (in_form encode (from_shape f s size)) old (Err why) old
   from_refused {why = why} p e = ends_refused encode (from_shape f s size) why (rw (shape_refused s size p e))
 
   -- or comes to its step
-  pub from_good : {w : Written} {old new : List ℤ} → ShapeGood s size → EndsIn (in_form encode (f (shape_in s))) old w new →
+  pub from_good : {w : (Result ℕ Refusal)} {old new : List ℤ} → ShapeGood s size → EndsIn (in_form encode (f (shape_in s))) old w new →
       EndsIn (in_form encode (from_shape f s size)) old w new
   from_good g t = ends_stepped encode (from_shape f s size) (f (shape_in s)) t (rw g.none_holds)
 

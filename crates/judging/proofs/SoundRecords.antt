@@ -1,4 +1,5 @@
 -- What is judged of one record and of two, and what the steps require of them. Assumes nothing.
+use Rattle.std.specs.Prelude.{Err, None, Option, Result, Some, Ok}
 use mathlib.Core.Path.{◌≡◌, sym, ◌∙◌, subst}
 use mathlib.Core.Bool.{Bool, true, false, not, ◌&&◌, ◌||◌}
 use mathlib.Core.List.{List, ◌∷◌}
@@ -6,8 +7,6 @@ use lib.IntN.{ℤ}
 use Rattle.rules.specs.declared.Head.{Head}
 use Rattle.rules.specs.declared.Refusal.{Refusal}
 use Rattle.rules.specs.declared.Refusal.TheVariants.{OverCount, Unsound}
-use Rattle.rules.specs.declared.Walk.{Walk}
-use Rattle.rules.specs.declared.Walk.TheVariants.{To, Broken}
 use Rattle.rules.specs.Record.{layout_in, sound}
 use Rattle.rules.specs.Arguments.{over_record}
 use Rattle.rules.specs.Layout.{Layout}
@@ -15,15 +14,13 @@ use Rattle.rules.specs.Refusals.{Verdict, given, refused, number_of, Reason, ◌
 use Rattle.rules.specs.CountsAndForms.{of_records}
 use Rattle.records.specs.Sound.{SoundRecord, sound_head, ReadableHead}
 use Rattle.records.proofs.SoundRecords.{no_head, sound_record}
-use Rattle.judging.specs.declared.Pair.{Pair}
-use Rattle.judging.specs.declared.Pair.TheVariants.{Sound, Refused}
 use Rattle.judging.specs.Judging.{pair_reasons, BothSound, PairIs}
 use Rattle.judging.proofs.Judged.{reason_holds, reason_passed}
 
 -- ---- one record
 
 -- one that has a head is sound
-pub head_sound : (s : List ℤ) {r : Walk} {h : Head} → r ≡ sound_head s → ReadableHead r s → r ≡ To h → sound s ≡ true
+pub head_sound : (s : List ℤ) {r : (Option Head)} {h : Head} → r ≡ sound_head s → ReadableHead r s → r ≡ Some h → sound s ≡ true
 head_sound s e p f = (sound_record s e p f).judged
 
 pub ruleset heads = (no_head, sound_record, head_sound)
@@ -47,11 +44,11 @@ module _ (s t : List ℤ) where
   none_over e f g k = record { is = rw (sym e ∙ f, sym g ∙ k) }
 
   -- the first is not sound
-  pub unsound_first : {r : Walk} → r ≡ sound_head s → r ≡ Broken → (sound s && sound t) ≡ false
+  pub unsound_first : {r : (Option Head)} → r ≡ sound_head s → r ≡ None → (sound s && sound t) ≡ false
   unsound_first e f = rw (no_head s e f)
 
   -- the second is not
-  pub unsound_second : {q r : Walk} {x : Head} → q ≡ sound_head s → ReadableHead q s → q ≡ To x → r ≡ sound_head t → r ≡ Broken →
+  pub unsound_second : {q r : (Option Head)} {x : Head} → q ≡ sound_head s → ReadableHead q s → q ≡ Some x → r ≡ sound_head t → r ≡ None →
       (sound s && sound t) ≡ false
   unsound_second d p g e f = rw (head_sound s d p g, no_head t e f)
 
@@ -88,12 +85,12 @@ pub ruleset two = (pairs, two_over, two_unsound, two_sound)
 
 -- ---- what was judged of two records, by the case that was met
 
-module _ (s t : List ℤ) {r : Pair} (p : PairIs s t r) where
-  pub both_sound : {x y : Head} → r ≡ Sound x y → BothSound s t x y
+module _ (s t : List ℤ) {r : (Result (Head × Head) Refusal)} (p : PairIs s t r) where
+  pub both_sound : {x y : Head} → r ≡ Ok (x, y) → BothSound s t x y
   both_sound e = subst (PairIs s t) e p
 
   -- the call is refused
-  pub two_refused : {A : Type 0} (f : Layout → Layout → A) {why : Refusal} → r ≡ Refused why → refused (number_of why) ≡ of_records f s t
+  pub two_refused : {A : Type 0} (f : Layout → Layout → A) {why : Refusal} → r ≡ Err why → refused (number_of why) ≡ of_records f s t
   two_refused f {why} e = let is : lowest (pair_reasons s t) ≡ refused (number_of why) = subst (PairIs s t) e p in rw is
 
 -- the call gives its answer

@@ -1,4 +1,6 @@
 -- A shape beside a result, two records, a range and a mode, judged.
+use Rattle.std.specs.Prelude.{Err, None, Ok, Option, Result, Some, ⊤}
+use Rattle.rules.specs.declared.Refusal.{Refusal}
 use Rattle.std.specs.Prelude.{◌≡◌, true, false, not, ◌&&◌, ◌||◌, List, [], ◌∷◌, ℕ, ◌≤◌, ℤ}
 use Rattle.rules.specs.declared.Head.{Head}
 use Rattle.rules.specs.declared.Mode.{Mode}
@@ -9,14 +11,6 @@ use Rattle.rules.specs.Arguments.{over_record, over_shape, short_result, good_en
 use Rattle.rules.specs.Stretching.{mode_of}
 use Rattle.records.specs.Sound.{SoundRecord}
 use Rattle.shapes.specs.Judged.{Judged}
-use Rattle.judging.specs.declared.Shape.{Shape}
-use Rattle.judging.specs.declared.Shape.TheVariants.{Good, Refused}
-use Rattle.judging.specs.declared.Pair.{Pair}
-use Rattle.judging.specs.declared.Pair.TheVariants.{Sound, Refused as NoPair}
-use Rattle.judging.specs.declared.Range.{Range}
-use Rattle.judging.specs.declared.Range.TheVariants.{Within, Wrong}
-use Rattle.judging.specs.declared.ModeAsked.{ModeAsked}
-use Rattle.judging.specs.declared.ModeAsked.TheVariants.{Is, Wrong as NoMode}
 
 -- ---- a shape
 
@@ -30,9 +24,9 @@ pub record ShapeGood (s : List ℤ) (result : ℕ) : Type 0 where
   pub shape : Judged s
   pub result_long : result_size ≤ result
 
-abbrev pub ShapeIs : List ℤ → ℕ → Shape → Type 0
-ShapeIs s result Good = ShapeGood s result
-ShapeIs s result (Refused why) = lowest (shape_reasons s result) ≡ refused (number_of why)
+abbrev pub ShapeIs : List ℤ → ℕ → Result ⊤ Refusal → Type 0
+ShapeIs s result (Ok tt) = ShapeGood s result
+ShapeIs s result (Err why) = lowest (shape_reasons s result) ≡ refused (number_of why)
 
 -- ---- two records
 
@@ -46,9 +40,9 @@ pub record BothSound (s t : List ℤ) (x y : Head) : Type 0 where
   pub first : SoundRecord x s
   pub second : SoundRecord y t
 
-abbrev pub PairIs : List ℤ → List ℤ → Pair → Type 0
-PairIs s t (Sound x y) = BothSound s t x y
-PairIs s t (NoPair why) = lowest (pair_reasons s t) ≡ refused (number_of why)
+abbrev pub PairIs : List ℤ → List ℤ → (Result (Head × Head) Refusal) → Type 0
+PairIs s t (Ok (x, y)) = BothSound s t x y
+PairIs s t (Err why) = lowest (pair_reasons s t) ≡ refused (number_of why)
 
 -- ---- a range
 
@@ -58,9 +52,9 @@ pub record RangeGood (start end : ℤ) (from to : ℕ) : Type 0 where
   pub from_is : from ≡ natural start
   pub to_is : to ≡ natural end
 
-abbrev pub RangeIs : ℤ → ℤ → Range → Type 0
-RangeIs start end (Within from to) = RangeGood start end from to
-RangeIs start end Wrong = good_end start && good_end end ≡ false
+abbrev pub RangeIs : ℤ → ℤ → (Option (ℕ × ℕ)) → Type 0
+RangeIs start end (Some (from, to)) = RangeGood start end from to
+RangeIs start end None = good_end start && good_end end ≡ false
 
 -- ---- a mode of stretching
 
@@ -69,6 +63,6 @@ pub record ModeGood (number : ℤ) (mode : Mode) : Type 0 where
   pub good : good_mode number ≡ true
   pub is : mode ≡ mode_of number
 
-abbrev pub ModeIs : ℤ → ModeAsked → Type 0
-ModeIs number (Is mode) = ModeGood number mode
-ModeIs number NoMode = good_mode number ≡ false
+abbrev pub ModeIs : ℤ → Option Mode → Type 0
+ModeIs number (Some mode) = ModeGood number mode
+ModeIs number None = good_mode number ≡ false

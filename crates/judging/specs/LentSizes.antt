@@ -1,11 +1,10 @@
 -- 1 and 2 of a call that is lent a result and a working buffer.
+use Rattle.std.specs.Prelude.{Err, Ok, Result, ⊤}
 use Rattle.std.specs.Prelude.{◌≡◌, Bool, false, ◌||◌, List, [], ◌∷◌, ℕ, ◌≤◌}
 use Rattle.rules.specs.declared.Refusal.{Refusal}
 use Rattle.rules.specs.Limits.{result_size, work_size}
 use Rattle.rules.specs.Refusals.{refused, number_of, Reason, ◌when◌, lowest}
 use Rattle.rules.specs.Arguments.{short_result, short_work}
-use Rattle.judging.specs.declared.Sizes.{Sizes}
-use Rattle.judging.specs.declared.Sizes.TheVariants.{Kept, Refused}
 
 -- 1 and 2, with whatever else a call can be refused for behind them
 abbrev pub size_reasons : Bool → ℕ → ℕ → List Reason → List Reason
@@ -21,6 +20,6 @@ pub record SizesKept (over : Bool) (result work : ℕ) : Type 0 where
 pub record SizesRefused (over : Bool) (result work : ℕ) (why : Refusal) : Type 0 where
   pub is : lowest (size_reasons over result work []) ≡ refused (number_of why)
 
-abbrev pub SizesAre : Bool → ℕ → ℕ → Sizes → Type 0
-SizesAre over result work Kept = SizesKept over result work
-SizesAre over result work (Refused why) = SizesRefused over result work why
+abbrev pub SizesAre : Bool → ℕ → ℕ → Result ⊤ Refusal → Type 0
+SizesAre over result work (Ok tt) = SizesKept over result work
+SizesAre over result work (Err why) = SizesRefused over result work why

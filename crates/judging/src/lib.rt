@@ -7,43 +7,7 @@ ghost use Rattle.rules.specs.Arguments.{over_rank};
 ghost use Rattle.judging.specs.LentSizes.{SizesAre};
 ghost use Rattle.judging.specs.Judging.{ShapeIs, PairIs, RangeIs, ModeIs};
 
-use cells::Sign;
-use rules::{Head, Mode, Refusal, Walk};
-
-// No count is over its limit and both lent buffers are long enough; or why the call is refused.
-#[derive(Clone, Copy)]
-pub enum Sizes {
-    Kept,
-    Refused(Refusal),
-}
-
-// A shape that obeys the extent rules, beside a result that is long enough; or why the call is refused.
-#[derive(Clone, Copy)]
-pub enum Shape {
-    Good,
-    Refused(Refusal),
-}
-
-// The heads of two sound records, or why the call is refused.
-#[derive(Clone, Copy)]
-pub enum Pair {
-    Sound(Head, Head),
-    Refused(Refusal),
-}
-
-// The start and the end of a range, or that one of them is wrong.
-#[derive(Clone, Copy)]
-pub enum Range {
-    Within(usize, usize),
-    Wrong,
-}
-
-// A mode of stretching, or that a number names none.
-#[derive(Clone, Copy)]
-pub enum ModeAsked {
-    Is(Mode),
-    Wrong,
-}
+use rules::{Head, Mode, Refusal};
 
 // Whether one of two tests holds.
 pub fn either(a: bool, b: bool) -> bool
@@ -60,93 +24,82 @@ pub fn over_rank(rank: i32) -> bool
     ensures { result ≡ over_rank rank }
 {
     match cells::sign_of(rank) {
-        Sign::Natural(axes) => rules::RANK_LIMIT < axes,
-        Sign::Negative => false,
+        Some(axes) => rules::RANK_LIMIT < axes,
+        None => false,
     }
 }
 
-// Whether a count is over its limit is told; it, a result of so many numbers and a working buffer of so many are judged with 1 and 2.
-pub fn judge_sizes(over: bool, res: usize, work: usize) -> Sizes
+// Whether a count is over its limit is told; it, a result of so many numbers and a working buffer of so many are judged with 1 and 2:
+// Ok if no count is over and both are long enough.
+pub fn judge_sizes(over: bool, res: usize, work: usize) -> Result<(), Refusal>
     ensures { SizesAre over res work result }
 {
     if over {
-        return Sizes::Refused(Refusal::OverCount);
+        return Err(Refusal::OverCount);
     }
     if res < parts::PART {
-        return Sizes::Refused(Refusal::ShortBuffer);
+        return Err(Refusal::ShortBuffer);
     }
     if work < parts::WORK {
-        return Sizes::Refused(Refusal::ShortBuffer);
+        return Err(Refusal::ShortBuffer);
     }
-    Sizes::Kept
+    Ok(())
 }
 
-// A shape and a result with room for so many numbers, judged with 1, 2 and 5.
-pub fn judge_shape(shape: &[i32], room: usize) -> Shape
+// A shape and a result with room for so many numbers, judged with 1, 2 and 5: Ok if the shape is good and the result long enough.
+pub fn judge_shape(shape: &[i32], room: usize) -> Result<(), Refusal>
     ensures { ShapeIs shape.now room result }
 {
     if shapes::over_shape(shape) {
-        return Shape::Refused(Refusal::OverCount);
+        return Err(Refusal::OverCount);
     }
     if room < parts::PART {
-        return Shape::Refused(Refusal::ShortBuffer);
+        return Err(Refusal::ShortBuffer);
     }
     if !shapes::good_shape(shape) {
-        return Shape::Refused(Refusal::WrongArgument);
+        return Err(Refusal::WrongArgument);
     }
-    Shape::Good
+    Ok(())
 }
 
-// Two records, judged with 1 and 3.
-pub fn judge_pair(a: &[i32], b: &[i32]) -> Pair
+// The heads of two records, judged with 1 and 3.
+pub fn judge_pair(a: &[i32], b: &[i32]) -> Result<(Head, Head), Refusal>
     ensures { PairIs a.now b.now result }
 {
     if records::over_record(a) {
-        return Pair::Refused(Refusal::OverCount);
+        return Err(Refusal::OverCount);
     }
     if records::over_record(b) {
-        return Pair::Refused(Refusal::OverCount);
+        return Err(Refusal::OverCount);
     }
-    let Walk::To(first) = records::sound_head(a) else {
-        return Pair::Refused(Refusal::Unsound);
-    };
-    let Walk::To(second) = records::sound_head(b) else {
-        return Pair::Refused(Refusal::Unsound);
-    };
-    Pair::Sound(first, second)
+    let first = records::sound_head(a).ok_or(Refusal::Unsound)?;
+    let second = records::sound_head(b).ok_or(Refusal::Unsound)?;
+    Ok((first, second))
 }
 
-// A range: its start and its end are each from 0 to 65,536.
-pub fn judge_range(start: i32, end: i32) -> Range
+// The start and the end of a range, if each is from 0 to 65,536.
+pub fn judge_range(start: i32, end: i32) -> Option<(usize, usize)>
     ensures { RangeIs start end result }
 {
-    let Sign::Natural(from) = cells::sign_of(start) else {
-        return Range::Wrong;
-    };
-    let Sign::Natural(to) = cells::sign_of(end) else {
-        return Range::Wrong;
-    };
+    let from = cells::sign_of(start)?;
+    let to = cells::sign_of(end)?;
     if rules::PRODUCT_LIMIT < from {
-        return Range::Wrong;
+        return None;
     }
     if rules::PRODUCT_LIMIT < to {
-        return Range::Wrong;
+        return None;
     }
-    Range::Within(from, to)
+    Some((from, to))
 }
 
-// A mode of stretching: 0 and 1 name one.
-pub fn judge_mode(mode: i32) -> ModeAsked
+// The mode of stretching that a number names: 0 and 1 name one.
+pub fn judge_mode(mode: i32) -> Option<Mode>
     ensures { ModeIs mode result }
 {
-    let Sign::Natural(number) = cells::sign_of(mode) else {
-        return ModeAsked::Wrong;
-    };
-    if number == 0 {
-        return ModeAsked::Is(Mode::Alone);
+    let number = cells::sign_of(mode)?;
+    match number {
+        0 => Some(Mode::Alone),
+        1 => Some(Mode::Together),
+        _ => None,
     }
-    if number == 1 {
-        return ModeAsked::Is(Mode::Together);
-    }
-    ModeAsked::Wrong
 }

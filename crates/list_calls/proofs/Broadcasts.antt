@@ -1,4 +1,5 @@
 -- How a broadcast of a list of records ends. Assumes nothing.
+use Rattle.std.specs.Prelude.{Err, Ok, Result, ⊤}
 use mathlib.Core.Path.{◌≡◌, sym, ap, ◌∙◌}
 use mathlib.Core.Bool.{Bool, true, false, not, ◌||◌}
 use mathlib.Core.List.{List, [], ◌∷◌, map}
@@ -11,9 +12,6 @@ use Rattle.rules.specs.declared.Refusal.{Refusal}
 use Rattle.rules.specs.declared.Refusal.TheVariants.{Unsound, WrongArgument}
 use Rattle.rules.specs.declared.Mode.{Mode}
 use Rattle.rules.specs.declared.Rule.{Rule}
-use Rattle.rules.specs.declared.Step.{Step}
-use Rattle.rules.specs.declared.Written.{Written}
-use Rattle.rules.specs.declared.Written.TheVariants.{Refused as NotWritten}
 use Rattle.rules.specs.Limits.{work_size}
 use Rattle.rules.specs.Lists.{all, any}
 use Rattle.rules.specs.Buffers.{over, zeros}
@@ -31,8 +29,6 @@ use Rattle.parts.proofs.Ending.{AboveTwo, Late}
 use Rattle.parts.proofs.Lent.{lent_of, back_in}
 use Rattle.lists.specs.Places.{standing, EachAt, PlacesOf}
 use Rattle.lists.specs.Records.{JudgedRecord, layouts_at}
-use Rattle.judging.specs.declared.Sizes.{Sizes}
-use Rattle.judging.specs.declared.Sizes.TheVariants.{Kept, Refused}
 use Rattle.judging.specs.LentSizes.{size_reasons, SizesKept, SizesAre}
 use Rattle.judging.specs.Judging.{ModeGood}
 use Rattle.judging.proofs.Judged.{argument_wrong, argument_right, not_holds, not_fails}
@@ -77,11 +73,11 @@ module _ (s : List ℤ) (count : ℤ) (operator : ℕ) (mode : ℤ) (result work
     o_told : o ≡ told
     o_told = told_either (over_count count) (any over_record (records_in count s)) a-is b-is o_is
 
-    module _ {r : Sizes} (sizes : SizesAre o (length result) (length work) r) where
-      pub broadcast_early : {why : Refusal} → r ≡ Refused why → Ends (in_form encode call) result work (NotWritten why) result work
+    module _ {r : (Result ⊤ Refusal)} (sizes : SizesAre o (length result) (length work) r) where
+      pub broadcast_early : {why : Refusal} → r ≡ Err why → Ends (in_form encode call) result work (Err why) result work
       broadcast_early e = list_early told good wrong gives result work o_told sizes e
 
-      pub broadcast_kept : r ≡ Kept → SizesKept told (length result) (length work)
+      pub broadcast_kept : r ≡ Ok tt → SizesKept told (length result) (length work)
       broadcast_kept e = kept_told o_told sizes e
 
   module _ (k : SizesKept told (length result) (length work)) (n : ℕ) (places : List ℕ) (are : standing n places s ≡ records_in count s) {t : Bool} (t-is : t ≡ all sound (standing n places s)) where
@@ -89,17 +85,17 @@ module _ (s : List ℤ) (count : ℤ) (operator : ℕ) (mode : ℤ) (result work
     good_told = ap (all sound) (sym are) ∙ sym t-is
 
     -- 3
-    pub broadcast_unsound : not t ≡ true → {r : Written} {work' : List ℤ} → (r ≡ NotWritten Unsound) × (work' ≡ over (zeros work_size) work) → Ends (in_form encode call) result work r result work'
+    pub broadcast_unsound : not t ≡ true → {r : (Result ℕ Refusal)} {work' : List ℤ} → (r ≡ Err Unsound) × (work' ≡ over (zeros work_size) work) → Ends (in_form encode call) result work r result work'
     broadcast_unsound e f = list_unsound told good wrong gives result work k (omega arith, tt) (good_told ∙ not-true t e) f
 
     -- 5
-    pub broadcast_wrong : not t ≡ false → good_mode mode ≡ false → {r : Written} {work' : List ℤ} → (r ≡ NotWritten WrongArgument) × (work' ≡ over (zeros work_size) work) →
+    pub broadcast_wrong : not t ≡ false → good_mode mode ≡ false → {r : (Result ℕ Refusal)} {work' : List ℤ} → (r ≡ Err WrongArgument) × (work' ≡ over (zeros work_size) work) →
         Ends (in_form encode call) result work r result work'
     broadcast_wrong e w f =
         list_later told good wrong gives result work k (omega arith, tt) (good_told ∙ not-false t e) (argument_wrong (not (good_mode mode)) (not_fails (good_mode mode) w)) f
 
     -- no reason holds: the window came back from the step
-    module _ {way : Mode} (m : ModeGood mode way) {rule : Rule} (rule-is : rule ≡ rule_of operator) {step : Step} {w : List ℤ} (same : length w ≡ length (lent_of 0 window_size work))
+    module _ {way : Mode} (m : ModeGood mode way) {rule : Rule} (rule-is : rule ≡ rule_of operator) {step : (Result ⊤ Refusal)} {w : List ℤ} (same : length w ≡ length (lent_of 0 window_size work))
         (says : Says (broadcast way (layouts_at n places s) rule) left w step) where
       said : Says gives left w step
       said = rw (← m.is, ← rule-is, ← are) says
@@ -107,7 +103,7 @@ module _ (s : List ℤ) (count : ℤ) (operator : ℕ) (mode : ℤ) (result work
       pub broadcast_says : Says gives left (back_in 0 window_size work w) step
       broadcast_says = list_says told good wrong gives result work k left (omega arith) same said
 
-      pub broadcast_done : not t ≡ false → {result' work' : List ℤ} {r : Written} → Finished step left (back_in 0 window_size work w) result r work' result' →
+      pub broadcast_done : not t ≡ false → {result' work' : List ℤ} {r : (Result ℕ Refusal)} → Finished step left (back_in 0 window_size work w) result r work' result' →
           Ends (in_form encode call) result work r result' work'
       broadcast_done e f = list_done told good wrong gives result work k (omega arith, tt) (good_told ∙ not-false t e) (argument_right (not (good_mode mode)) (not_holds (good_mode mode) m.good)) (late_broadcast _ _ _) left (omega arith) same said f
 

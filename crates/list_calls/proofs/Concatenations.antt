@@ -1,4 +1,5 @@
 -- How a call that joins blocks ends. Assumes nothing.
+use Rattle.std.specs.Prelude.{Err, Ok, Result, ⊤}
 use mathlib.Core.Path.{◌≡◌, refl, sym, ap, ◌∙◌}
 use mathlib.Core.Bool.{Bool, true, false, not, ◌&&◌, ◌||◌}
 use mathlib.Core.List.{List, [], ◌∷◌, map}
@@ -12,9 +13,6 @@ use lib.Seq.{take_all}
 use lib.Signed.{non_neg}
 use Rattle.rules.specs.declared.Refusal.{Refusal}
 use Rattle.rules.specs.declared.Refusal.TheVariants.{Unsound, WrongArgument}
-use Rattle.rules.specs.declared.Step.{Step}
-use Rattle.rules.specs.declared.Written.{Written}
-use Rattle.rules.specs.declared.Written.TheVariants.{Refused as NotWritten}
 use Rattle.rules.specs.Limits.{rank_limit, work_size}
 use Rattle.rules.specs.Lists.{if, all, any}
 use Rattle.rules.specs.Buffers.{over, zeros}
@@ -38,8 +36,6 @@ use Rattle.lists.specs.Starts.{blocks_at, starts_in, StartsOf}
 use Rattle.lists.specs.Asked.{asked}
 use Rattle.lists.specs.Records.{JudgedRecord}
 use Rattle.lists.proofs.Asking.{over_blocks, sound_blocks, good_blocks}
-use Rattle.judging.specs.declared.Sizes.{Sizes}
-use Rattle.judging.specs.declared.Sizes.TheVariants.{Kept, Refused}
 use Rattle.judging.specs.LentSizes.{size_reasons, SizesKept, SizesAre}
 use Rattle.judging.proofs.Judged.{argument_wrong, argument_right, told_not_true, told_not_false}
 use Rattle.judging.proofs.LentSizes.{kept_told}
@@ -112,29 +108,29 @@ module _ (count rank : ℤ) (s : List ℤ) {n axes end : ℕ} (n-is : n ≡ list
   wrong_are = rw (← axes-is, blocks_are)
 
   -- the blocks of the step are those of the call
-  pub joined_said : {u : List ℤ} {step : Step} → Says (concatenate (blocks_of axes n places (walked_to end s)) axes) target u step →
+  pub joined_said : {u : List ℤ} {step : (Result ⊤ Refusal)} → Says (concatenate (blocks_of axes n places (walked_to end s)) axes) target u step →
       Says (concatenate (map block_of (blocks_in count rank s)) (natural rank)) target u step
   joined_said d = rw (← blocks_are, ← axes-is) d
 
-  module _ {records : List ℕ} (m : PlacesOf (map (drop (axes + 1)) (standing n places (walked_to end s))) n (walked_to end s) records) where
-    behind : standing n records (walked_to end s) ≡ map (drop (suc axes)) (standing n places (walked_to end s))
+  module _ {q : ℕ} {records : List ℕ} (m : PlacesOf (map (drop (axes + 1)) (standing n places (walked_to end s))) q (walked_to end s) records) where
+    behind : standing q records (walked_to end s) ≡ map (drop (suc axes)) (standing n places (walked_to end s))
     behind = m.begin ∙ ap (λ (k : ℕ). map (drop k) (standing n places (walked_to end s))) (add-one axes)
 
-    pub over_are : any over_record (standing n records (walked_to end s)) ≡ any (λ b. over_record b.layout) (blocks_in count rank s)
+    pub over_are : any over_record (standing q records (walked_to end s)) ≡ any (λ b. over_record b.layout) (blocks_in count rank s)
     over_are = ap (any over_record) behind ∙ over_blocks axes (standing n places (walked_to end s)) ∙ ap (any (λ b. over_record b.layout)) blocks_are
 
-    pub sound_are : all sound (standing n records (walked_to end s)) ≡ all (λ b. sound b.layout) (blocks_in count rank s)
+    pub sound_are : all sound (standing q records (walked_to end s)) ≡ all (λ b. sound b.layout) (blocks_in count rank s)
     sound_are = ap (all sound) behind ∙ sound_blocks axes (standing n places (walked_to end s)) ∙ ap (all (λ b. sound b.layout)) blocks_are
 
     -- what the step requires
-    pub ask_joined : natural rank ≤ rank_limit → {t : Bool} → t ≡ all sound (standing n records (walked_to end s)) → (t ≡ true → EachAt JudgedRecord n records (walked_to end s)) → not t ≡ false →
+    pub ask_joined : q ≡ n → natural rank ≤ rank_limit → {t : Bool} → t ≡ all sound (standing q records (walked_to end s)) → (t ≡ true → EachAt JudgedRecord q records (walked_to end s)) → not t ≡ false →
         {starts : List (List ℕ)} → StartsOf (starts_in (blocks_at axes n places (walked_to end s))) starts → {u : List ℤ} → window_size ≤ length u → JoinAsked axes n places records starts (walked_to end s) u
-    ask_joined h {t} e f g b room = record {
+    ask_joined same h {t} e f g b room = record {
       rank_most = rw axes-is h;
       inside = p.inside;
-      moved = m;
-      judged = sym e ∙ not-false t g;
-      known = f (not-false t g);
+      moved = rw same at m;
+      judged = rw same at (sym e ∙ not-false t g);
+      known = rw same at (f (not-false t g));
       begun = b;
       room = room;
     }
@@ -168,11 +164,11 @@ module _ (s : List ℤ) (count rank : ℤ) (result work : List ℤ) where
   late_later = (omega arith, tt)
 
   -- 1 or 2
-  module _ {o : Bool} (o_is : o ≡ told) {r : Sizes} (sizes : SizesAre o (length result) (length work) r) where
-    pub join_early : {why : Refusal} → r ≡ Refused why → Ends (in_form encode call) result work (NotWritten why) result work
+  module _ {o : Bool} (o_is : o ≡ told) {r : (Result ⊤ Refusal)} (sizes : SizesAre o (length result) (length work) r) where
+    pub join_early : {why : Refusal} → r ≡ Err why → Ends (in_form encode call) result work (Err why) result work
     join_early e = list_early told good later gives result work o_is sizes e
 
-    pub join_kept : r ≡ Kept → SizesKept told (length result) (length work)
+    pub join_kept : r ≡ Ok tt → SizesKept told (length result) (length work)
     join_kept e = kept_told o_is sizes e
 
   module _ (k : SizesKept told (length result) (length work)) where
@@ -184,12 +180,12 @@ module _ (s : List ℤ) (count rank : ℤ) (result work : List ℤ) where
 
     module _ {t : Bool} (t-is : t ≡ good) where
       -- 3
-      pub join_unsound : not t ≡ true → {r : Written} {work' : List ℤ} → (r ≡ NotWritten Unsound) × (work' ≡ over (zeros work_size) work) → Ends (in_form encode call) result work r result work'
+      pub join_unsound : not t ≡ true → {r : (Result ℕ Refusal)} {work' : List ℤ} → (r ≡ Err Unsound) × (work' ≡ over (zeros work_size) work) → Ends (in_form encode call) result work r result work'
       join_unsound e f = list_unsound told good later gives result work k late_later (told_not_true good t-is e) f
 
       module _ (e : not t ≡ false) {w : Bool} (w-is : w ≡ bad) where
         -- 5
-        pub join_wrong : w ≡ true → {r : Written} {work' : List ℤ} → (r ≡ NotWritten WrongArgument) × (work' ≡ over (zeros work_size) work) → Ends (in_form encode call) result work r result work'
+        pub join_wrong : w ≡ true → {r : (Result ℕ Refusal)} {work' : List ℤ} → (r ≡ Err WrongArgument) × (work' ≡ over (zeros work_size) work) → Ends (in_form encode call) result work r result work'
         join_wrong f g = list_later told good later gives result work k late_later (told_not_false good t-is e) (argument_wrong bad (sym w-is ∙ f)) g
 
         module _ (f : w ≡ false) where
@@ -198,11 +194,11 @@ module _ (s : List ℤ) (count rank : ℤ) (result work : List ℤ) where
           all_good = (both_true (non_neg rank) (all good_block blocks) (not-false (non_neg rank && all good_block blocks) (sym w-is ∙ f))).1
 
           -- no reason holds: the window came back from the step
-          module _ {step : Step} {u : List ℤ} (same : length u ≡ length (lent_of 0 window_size work)) (says : Says gives target u step) where
+          module _ {step : (Result ⊤ Refusal)} {u : List ℤ} (same : length u ≡ length (lent_of 0 window_size work)) (says : Says gives target u step) where
             pub join_says : Says gives target (back_in 0 window_size work u) step
             join_says = list_says told good later gives result work k target (omega arith) same says
 
-            pub join_done : {result' work' : List ℤ} {r : Written} → Finished step target (back_in 0 window_size work u) result r work' result' → Ends (in_form encode call) result work r result' work'
+            pub join_done : {result' work' : List ℤ} {r : (Result ℕ Refusal)} → Finished step target (back_in 0 window_size work u) result r work' result' → Ends (in_form encode call) result work r result' work'
             join_done g =
                 list_done told good later gives result work k late_later (told_not_false good t-is e) (argument_right bad (sym w-is ∙ f))
                 (concatenate_refusing AboveTwo (omega arith) (omega arith) (omega arith) _ _) target (omega arith) same says g

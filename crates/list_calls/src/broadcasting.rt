@@ -5,9 +5,8 @@ ghost use Rattle.rules.specs.Layout.{encode};
 ghost use Rattle.rules.specs.Endings.{Ends};
 ghost use Rattle.rules.specs.Broadcast.{rule_of, broadcast_call, broadcast_with_mode_call};
 
-use judging::{ModeAsked, Sizes};
 use lists::Thing;
-use rules::{Refusal, Rule, Written};
+use rules::{Refusal, Rule};
 
 // What an operator byte asks: 47 divides, 42 multiplies, every other one unites.
 fn rule_of(operator: u8) -> Rule
@@ -29,26 +28,24 @@ pub fn broadcast_with_mode(
     mode: i32,
     res: &mut [i32],
     work: &mut [i32],
-) -> Written
+) -> Result<usize, Refusal>
     ensures { Ends (in_form encode (broadcast_with_mode_call layouts.now count operator mode (length res.old) (length work.old))) res.old work.old result res.new work.new }
 {
     let n = shapes::list_count(count);
-    let places = lists::places(Thing::Record, layouts, n);
+    let places = lists::places_of(Thing::Record, layouts, n);
     let over = judging::either(
         shapes::over_count(count),
-        lists::over_axes(layouts, places, n),
+        lists::over_axes(layouts, &places),
     );
-    if let Sizes::Refused(why) = judging::judge_sizes(over, res.len(), work.len()) {
-        return Written::Refused(why);
-    }
-    if !lists::all_sound(layouts, places, n) {
+    judging::judge_sizes(over, res.len(), work.len())?;
+    if !lists::all_sound(layouts, &places) {
         return parts::refuse(Refusal::Unsound, work);
     }
-    let ModeAsked::Is(way) = judging::judge_mode(mode) else {
+    let Some(way) = judging::judge_mode(mode) else {
         return parts::refuse(Refusal::WrongArgument, work);
     };
     let rule = rule_of(operator);
-    let step = fold::broadcast_in(way, layouts, places, n, rule, &mut work[0..parts::WINDOW]);
+    let step = fold::broadcast_in(way, layouts, &places, rule, &mut work[0..parts::WINDOW]);
     parts::finish(step, work, parts::LEFT, res)
 }
 
@@ -60,7 +57,7 @@ pub fn broadcast(
     operator: u8,
     res: &mut [i32],
     work: &mut [i32],
-) -> Written
+) -> Result<usize, Refusal>
     ensures { Ends (in_form encode (broadcast_call layouts.now count operator (length res.old) (length work.old))) res.old work.old result res.new work.new }
 {
     broadcast_with_mode(layouts, count, operator, 0, res, work)

@@ -11,18 +11,16 @@ ghost use Rattle.rules.specs.Concatenate.{good_block, concatenate_call};
 ghost use Rattle.lists.specs.Places.{standing, Inside};
 ghost use Rattle.lists.specs.Starts.{blocks_at};
 
-use cells::Sign;
-use judging::Sizes;
-use lists::{Ask, Thing};
-use rules::{Refusal, Written};
+use lists::{Ask, Places, Thing};
+use rules::Refusal;
 
 // How many axes are asked; none by a negative rank.
 fn axes_of(rank: i32) -> usize
     ensures { (result ≡ natural rank) × (result < 2 ^ 31) }
 {
     match cells::sign_of(rank) {
-        Sign::Natural(axes) => axes,
-        Sign::Negative => 0,
+        Some(axes) => axes,
+        None => 0,
     }
 }
 
@@ -31,28 +29,28 @@ fn walkable(blocks: &[i32], rank: i32) -> usize
     ensures { result ≡ if (non_neg rank) (length blocks.now) 0 }
 {
     match cells::sign_of(rank) {
-        Sign::Natural(_) => blocks.len(),
-        Sign::Negative => 0,
+        Some(_) => blocks.len(),
+        None => 0,
     }
 }
 
-// Whether the count, the asked rank or the axes of one of n records are over their limits.
-fn over_blocks(list: &[i32], records: [usize; 16], n: usize, count: i32, rank: i32) -> bool
-    requires { Inside n records list.now }
-    ensures { result ≡ (over_count count || over_rank rank || any over_record (standing n records list.now)) }
+// Whether the count, the asked rank or the axes of one of the records are over their limits.
+fn over_blocks(list: &[i32], records: &Places, count: i32, rank: i32) -> bool
+    requires { Inside records.now.count records.now.at list.now }
+    ensures { result ≡ (over_count count || over_rank rank || any over_record (standing records.now.count records.now.at list.now)) }
 {
     let numbers = judging::either(shapes::over_count(count), judging::over_rank(rank));
-    judging::either(numbers, lists::over_axes(list, records, n))
+    judging::either(numbers, lists::over_axes(list, records))
 }
 
-// Whether the asked rank is negative, or the start or the flag of one of n blocks is wrong.
-fn wrong_blocks(list: &[i32], places: [usize; 16], n: usize, rank: i32) -> bool
-    requires { Inside n places list.now }
-    ensures { result ≡ not (non_neg rank && all good_block (blocks_at (natural rank) n places list.now)) }
+// Whether the asked rank is negative, or the start or the flag of one of the blocks is wrong.
+fn wrong_blocks(list: &[i32], places: &Places, rank: i32) -> bool
+    requires { Inside places.now.count places.now.at list.now }
+    ensures { result ≡ not (non_neg rank && all good_block (blocks_at (natural rank) places.now.count places.now.at list.now)) }
 {
     match cells::sign_of(rank) {
-        Sign::Natural(axes) => !lists::all_pass(Ask::GoodBlock(axes), list, places, n),
-        Sign::Negative => true,
+        Some(axes) => !lists::all_pass(Ask::GoodBlock(axes), list, places),
+        None => true,
     }
 }
 
@@ -64,31 +62,28 @@ pub fn concatenate(
     rank: i32,
     res: &mut [i32],
     work: &mut [i32],
-) -> Written
+) -> Result<usize, Refusal>
     ensures { Ends (in_form encode (concatenate_call blocks.now count rank (length res.old) (length work.old))) res.old work.old result res.new work.new }
 {
     let n = shapes::list_count(count);
     let axes = axes_of(rank);
     let end = walkable(blocks, rank);
     let list = &blocks[0..end];
-    let places = lists::places(Thing::Block(axes), list, n);
-    let records = lists::moved(list, places, n, axes + 1);
-    let over = over_blocks(list, records, n, count, rank);
-    if let Sizes::Refused(why) = judging::judge_sizes(over, res.len(), work.len()) {
-        return Written::Refused(why);
-    }
-    if !lists::all_sound(list, records, n) {
+    let places = lists::places_of(Thing::Block(axes), list, n);
+    let records = lists::moved(list, &places, axes + 1);
+    let over = over_blocks(list, &records, count, rank);
+    judging::judge_sizes(over, res.len(), work.len())?;
+    if !lists::all_sound(list, &records) {
         return parts::refuse(Refusal::Unsound, work);
     }
-    if wrong_blocks(list, places, n, rank) {
+    if wrong_blocks(list, &places, rank) {
         return parts::refuse(Refusal::WrongArgument, work);
     }
-    let starts = lists::block_starts(list, places, n, axes);
+    let starts = lists::block_starts(list, &places, axes);
     let step = join::concatenate_into(
         list,
-        places,
-        records,
-        n,
+        &places,
+        &records,
         starts,
         axes,
         &mut work[0..parts::WINDOW],

@@ -103,10 +103,10 @@ over_records [] = refl
 over_records (s ∷ l) = rw (get_or-drop 2 s 0 (pos 0), over_records l)
 
 -- one is over if not all have few axes, where their shapes stand
-pub over_moved : (n : ℕ) (places : List ℕ) (s : List ℤ) {shapes : List ℕ} → PlacesOf (map (drop 2) (standing n places s)) n s shapes → {b : Bool} →
-    b ≡ all (asked FewAxes) (standing n shapes s) → not b ≡ any over_record (standing n places s)
-over_moved n places s {shapes} m e =
-    ap not e ∙ sym (any_all over_shape (standing n shapes s)) ∙ ap (any over_shape) m.begin ∙ over_records (standing n places s)
+pub over_moved : (n : ℕ) (places : List ℕ) (s : List ℤ) {m : ℕ} {shapes : List ℕ} → PlacesOf (map (drop 2) (standing n places s)) m s shapes → {b : Bool} →
+    b ≡ all (asked FewAxes) (standing m shapes s) → not b ≡ any over_record (standing n places s)
+over_moved n places s {m} {shapes} p e =
+    ap not e ∙ sym (any_all over_shape (standing m shapes s)) ∙ ap (any over_shape) p.begin ∙ over_records (standing n places s)
 
 -- the records of blocks stand behind their starts and flags
 module _ (rank : ℕ) (l : List (List ℤ)) where

@@ -1,4 +1,5 @@
 -- Where a thing ends. Assumes nothing.
+use Rattle.std.specs.Prelude.{None, Option, Some}
 use mathlib.Core.Path.{◌≡◌, sym, ap, ◌∙◌}
 use mathlib.Core.List.{List}
 use Prim.Native.Nat.{ℕ, suc, ◌+◌, ◌-◌, ◌^◌, ◌<◌, ◌≤◌}
@@ -10,11 +11,7 @@ use lib.Seq.{drop-drop, drop-length}
 use mir.Syntax.{w64}
 use mir.Val.{Fits}
 use Rattle.rules.specs.declared.Entries.{Entries}
-use Rattle.rules.specs.declared.Section.{Section}
-use Rattle.rules.specs.declared.Section.TheVariants.{Whole, Cut}
 use Rattle.rules.specs.declared.Head.{Head}
-use Rattle.rules.specs.declared.Walk.{Walk}
-use Rattle.rules.specs.declared.Walk.TheVariants.{To, Broken}
 use Rattle.rules.specs.Record.{section_at, walk, behind_shape, behind_record, behind_block}
 use Rattle.records.specs.Sections.{Laid, SectionIn}
 use Rattle.records.specs.EndToEnd.{Behind}
@@ -26,24 +23,24 @@ use Rattle.lists.specs.Places.{behind_thing}
 
 -- ---- a shape
 
-module _ (at : ℕ) (s : List ℤ) {g : Section} (is : g ≡ section_at 0 1 (take (length s - at) (drop at s))) (h : at ≤ length s) where
+module _ (at : ℕ) (s : List ℤ) {g : (Option Entries)} (is : g ≡ section_at 0 1 (take (length s - at) (drop at s))) (h : at ≤ length s) where
   extents_shown : g ≡ section_at 0 1 (drop at s)
   extents_shown = is ∙ ap (section_at 0 1) (to_end at s)
 
-  shape_room : {e : Entries} → SectionIn 0 1 (take (length s - at) (drop at s)) g → g ≡ Whole e → at + e.next ≤ length s
+  shape_room : {e : Entries} → SectionIn 0 1 (take (length s - at) (drop at s)) g → g ≡ Some e → at + e.next ≤ length s
   shape_room {e} lies f =
       let l : Laid 0 1 (take (length s - at) (drop at s)) e = (rw f at lies).0 in
       let r : e.next ≤ length s - at = rw (to_end, length-drop) at l.room in
       omega arith
 
-  pub shape_fits : {e : Entries} → SectionIn 0 1 (take (length s - at) (drop at s)) g → g ≡ Whole e → length s < 2 ^ 64 → Fits w64 (at + e.next)
+  pub shape_fits : {e : Entries} → SectionIn 0 1 (take (length s - at) (drop at s)) g → g ≡ Some e → length s < 2 ^ 64 → Fits w64 (at + e.next)
   shape_fits lies f k = record { fits = let r = shape_room lies f in omega arith }
 
-  pub behind_extents : {e : Entries} → SectionIn 0 1 (take (length s - at) (drop at s)) g → g ≡ Whole e → Behind behind_shape at s (at + e.next)
+  pub behind_extents : {e : Entries} → SectionIn 0 1 (take (length s - at) (drop at s)) g → g ≡ Some e → Behind behind_shape at s (at + e.next)
   unfolding behind_shape
   behind_extents {e} lies f = record { inside = shape_room lies f; rest = rw (← extents_shown, f) (sym (drop-drop e.next at s)) }
 
-  pub behind_cut : g ≡ Cut → Behind behind_shape at s (length s)
+  pub behind_cut : g ≡ None → Behind behind_shape at s (length s)
   unfolding behind_shape
   behind_cut f = record { inside = omega arith; rest = rw (← extents_shown, f) (drop-length s) }
 
@@ -52,26 +49,26 @@ pub ruleset shape_laws = (shape_fits, behind_extents, behind_cut)
 -- ---- a record
 
 -- the record that begins at a place was walked, or could not be
-module _ (at : ℕ) (s : List ℤ) {w : Walk} (is : w ≡ walk (take (length s - at) (drop at s))) (h : at ≤ length s) where
+module _ (at : ℕ) (s : List ℤ) {w : (Option Head)} (is : w ≡ walk (take (length s - at) (drop at s))) (h : at ≤ length s) where
   shown : walk (drop at s) ≡ w
   shown = sym (is ∙ ap walk (to_end at s))
 
-  room : {k : Head} → w ≡ To k → at + k.inputs.next ≤ length s
+  room : {k : Head} → w ≡ Some k → at + k.inputs.next ≤ length s
   room e =
       let inside = (walked_head (drop at s) (shown ∙ e)).inputs.room in
       let size = length-drop at s in
       omega arith
 
-  pub walked_fits : {k : Head} → w ≡ To k → length s < 2 ^ 64 → Fits w64 (at + k.inputs.next)
+  pub walked_fits : {k : Head} → w ≡ Some k → length s < 2 ^ 64 → Fits w64 (at + k.inputs.next)
   walked_fits e l = record { fits = let r = room e in omega arith }
 
   -- walked, it ends behind its last section
-  pub behind_walked : {k : Head} → w ≡ To k → Behind behind_record at s (at + k.inputs.next)
+  pub behind_walked : {k : Head} → w ≡ Some k → Behind behind_record at s (at + k.inputs.next)
   unfolding behind_record
   behind_walked {k} e = record { inside = room e; rest = rw (shown ∙ e) (sym (drop-drop k.inputs.next at s)) }
 
   -- broken, it takes the rest
-  pub behind_broken : w ≡ Broken → Behind behind_record at s (length s)
+  pub behind_broken : w ≡ None → Behind behind_record at s (length s)
   unfolding behind_record
   behind_broken e = record { inside = omega arith; rest = rw (shown ∙ e) (drop-length s) }
 

@@ -1,4 +1,5 @@
 -- The records of a list judged one after the other. Assumes nothing.
+use Rattle.std.specs.Prelude.{None, Option, Some}
 use mathlib.Core.Path.{◌≡◌, refl, sym}
 use mathlib.Core.Bool.{Bool, true, false}
 use mathlib.Core.List.{List, []}
@@ -9,8 +10,6 @@ use lib.Dec.{ltb}
 use lib.IntN.{ℤ}
 use lib.ListN.{length, get_or, take, drop}
 use Rattle.rules.specs.declared.Head.{Head}
-use Rattle.rules.specs.declared.Walk.{Walk}
-use Rattle.rules.specs.declared.Walk.TheVariants.{To, Broken}
 use Rattle.rules.specs.Lists.{all}
 use Rattle.rules.specs.Record.{sound}
 use Rattle.rules.proofs.Same.{true_not_false}
@@ -37,13 +36,13 @@ module _ {n : ℕ} {places : List ℕ} {s : List ℤ} {i : ℕ} (p : SoundTo n p
   abbrev next_record : List ℤ
   next_record = take (length s - get_or places i 0) (drop (get_or places i 0) s)
 
-  module _ {w : Walk} (h : i < n) (e : w ≡ sound_head next_record) where
+  module _ {w : (Option Head)} (h : i < n) (e : w ≡ sound_head next_record) where
     -- one is not sound
-    pub sound_stop : w ≡ Broken → false ≡ all sound (standing n places s)
+    pub sound_stop : w ≡ None → false ≡ all sound (standing n places s)
     sound_stop f = pass_stop p.inside p.passed h (sym (no_head next_record e f)) refl
 
     -- one is sound
-    pub sound_turn : ReadableHead w next_record → {k : Head} → w ≡ To k → SoundTo n places s (i + 1)
+    pub sound_turn : ReadableHead w next_record → {k : Head} → w ≡ Some k → SoundTo n places s (i + 1)
     sound_turn r {k} f = record {
       inside = p.inside;
       passed = pass_turn p.inside p.passed h (sym found.judged) refl;

@@ -1,6 +1,7 @@
 -- What is asked of a thing, what is measured of a shape, and what is known of a common shape.
+use Rattle.std.specs.Prelude.{Ok, Result}
 use Rattle.std.specs.Prelude.{◌≡◌, Bool, not, ◌||◌, List, map, ℕ, ◌<◌, ◌≤◌, eqb, ℤ, length, get_or}
-use Rattle.rules.specs.declared.Number.TheVariants.{Is}
+use Rattle.rules.specs.declared.Refusal.{Refusal}
 use Rattle.rules.specs.declared.Tuple.{Tuple}
 use Rattle.rules.specs.Record.{shape_in, good_shape, block_at}
 use Rattle.rules.specs.Arguments.{over_shape}
@@ -36,5 +37,5 @@ abbrev pub shapes_at : ℕ → List ℕ → List ℤ → List (List ℕ)
 shapes_at n places s = map shape_in (standing n places s)
 
 -- a shape by value that is given has at most 4 extents, and is that of some shapes
-abbrev pub RankFew : ℕ → Tuple → Type 0
-RankFew n r = (k : ℕ) → r.count ≡ Is k → (k ≤ 4) × (0 < n)
+abbrev pub RankFew : ℕ → Result Tuple Refusal → Type 0
+RankFew n r = (t : Tuple) → r ≡ Ok t → (t.count ≤ 4) × (0 < n)

@@ -1,4 +1,4 @@
-// The common shape of shapes, each a count and its extents at one of n places.
+// The common shape of shapes, each a count and its extents at one of the places.
 ghost use Rattle.std.specs.Prelude.{◌≡◌, map, ◌≤◌, length};
 ghost use Rattle.rules.specs.Limits.{rank_limit};
 ghost use Rattle.rules.specs.Lists.{larger, largest, fit_to};
@@ -11,7 +11,8 @@ ghost use Rattle.lists.specs.Places.{EachAt};
 ghost use Rattle.lists.specs.Asked.{measure, shapes_at, RankFew};
 
 use super::asks::{Ask, all_pass};
-use rules::{Number, Refusal, Tuple};
+use super::walking::Places;
+use rules::{Refusal, Tuple};
 
 // What is measured of a shape.
 #[derive(Clone, Copy)]
@@ -41,36 +42,36 @@ pub fn larger(x: usize, y: usize) -> usize
     x
 }
 
-// The largest measure of n shapes.
-fn largest(what: Measure, s: &[i32], places: [usize; 16], n: usize) -> usize
-    requires { EachAt Judged n places s.now }
-    ensures { result ≡ largest (map (measure what) (shapes_at n places s.now)) }
+// The largest measure of the shapes.
+fn largest(what: Measure, s: &[i32], places: &Places) -> usize
+    requires { EachAt Judged places.now.count places.now.at s.now }
+    ensures { result ≡ largest (map (measure what) (shapes_at places.now.count places.now.at s.now)) }
 {
     let mut most = 0;
-    for i in 0..n {
-        let at = places[i];
+    for i in 0..places.count {
+        let at = places.at[i];
         most = larger(most, measured(what, &s[at..]));
     }
     most
 }
 
 // The largest count of extents.
-fn longest(s: &[i32], places: [usize; 16], n: usize) -> usize
-    requires { EachAt Judged n places s.now }
-    ensures { (result ≡ largest (map length (shapes_at n places s.now))) × (result ≤ 4) }
+fn longest(s: &[i32], places: &Places) -> usize
+    requires { EachAt Judged places.now.count places.now.at s.now }
+    ensures { (result ≡ largest (map length (shapes_at places.now.count places.now.at s.now))) × (result ≤ 4) }
 {
-    largest(Measure::Rank, s, places, n)
+    largest(Measure::Rank, s, places)
 }
 
 // Whether the shapes agree on every axis: each extent is 1 or the largest one.
-fn shapes_agree(s: &[i32], places: [usize; 16], n: usize) -> bool
-    requires { EachAt Judged n places s.now }
-    ensures { result ≡ shapes_agree (shapes_at n places s.now) }
+fn shapes_agree(s: &[i32], places: &Places) -> bool
+    requires { EachAt Judged places.now.count places.now.at s.now }
+    ensures { result ≡ shapes_agree (shapes_at places.now.count places.now.at s.now) }
 {
-    let axes = longest(s, places, n);
+    let axes = longest(s, places);
     for axis in 0..axes {
-        let common = largest(Measure::Extent(axis), s, places, n);
-        if !all_pass(Ask::Agrees(axis, common), s, places, n) {
+        let common = largest(Measure::Extent(axis), s, places);
+        if !all_pass(Ask::Agrees(axis, common), s, places) {
             return false;
         }
     }
@@ -78,47 +79,37 @@ fn shapes_agree(s: &[i32], places: [usize; 16], n: usize) -> bool
 }
 
 // The extents of the common shape by value, zeros behind them: the largest of each axis.
-fn common_extents(s: &[i32], places: [usize; 16], n: usize) -> [usize; 4]
-    requires { EachAt Judged n places s.now }
-    ensures { result ≡ fit_to rank_limit 0 (common_shape (shapes_at n places s.now)) }
+fn common_extents(s: &[i32], places: &Places) -> [usize; 4]
+    requires { EachAt Judged places.now.count places.now.at s.now }
+    ensures { result ≡ fit_to rank_limit 0 (common_shape (shapes_at places.now.count places.now.at s.now)) }
 {
     let mut extents = [0usize; 4];
-    let axes = longest(s, places, n);
+    let axes = longest(s, places);
     for axis in 0..axes {
-        extents[axis] = largest(Measure::Extent(axis), s, places, n);
+        extents[axis] = largest(Measure::Extent(axis), s, places);
     }
     extents
 }
 
-// A shape or an index that is refused.
-pub fn no_tuple(why: Refusal) -> Tuple
-    ensures { TupleIs (refused (number_of why)) result }
+// The common shape of shapes that were judged: 6 where they do not agree or there are none, 13 where it passes the limit.
+pub fn agreed_shape(s: &[i32], places: &Places) -> Result<Tuple, Refusal>
+    requires { EachAt Judged places.now.count places.now.at s.now }
+    ensures is { TupleIs (broadcast_shapes (shapes_at places.now.count places.now.at s.now)) result }
+    ensures few { RankFew places.now.count result }
 {
-    Tuple {
-        count: Number::Refused(why),
-        numbers: [0; 4],
+    if places.count == 0 {
+        return Err(Refusal::ShapesDisagree);
     }
-}
-
-// The common shape of n shapes that were judged: 6 where they do not agree or there are none, 13 where it passes the limit.
-pub fn agreed_shape(s: &[i32], places: [usize; 16], n: usize) -> Tuple
-    requires { EachAt Judged n places s.now }
-    ensures is { TupleIs (broadcast_shapes (shapes_at n places s.now)) result }
-    ensures few { RankFew n result }
-{
-    if n == 0 {
-        return no_tuple(Refusal::ShapesDisagree);
+    if !shapes_agree(s, places) {
+        return Err(Refusal::ShapesDisagree);
     }
-    if !shapes_agree(s, places, n) {
-        return no_tuple(Refusal::ShapesDisagree);
-    }
-    let axes = longest(s, places, n);
-    let numbers = common_extents(s, places, n);
+    let axes = longest(s, places);
+    let numbers = common_extents(s, places);
     if !shapes::within_product(numbers) {
-        return no_tuple(Refusal::MadeTooLarge);
+        return Err(Refusal::MadeTooLarge);
     }
-    Tuple {
-        count: Number::Is(axes),
+    Ok(Tuple {
+        count: axes,
         numbers,
-    }
+    })
 }

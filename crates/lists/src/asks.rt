@@ -6,6 +6,8 @@ ghost use Rattle.rules.specs.Concatenate.{good_block};
 ghost use Rattle.lists.specs.Places.{standing, EachAt};
 ghost use Rattle.lists.specs.Asked.{asked, Askable};
 
+use super::walking::Places;
+
 // What is asked of the thing at the front of a slice.
 #[derive(Clone, Copy)]
 pub enum Ask {
@@ -54,13 +56,13 @@ fn passes(ask: Ask, s: &[i32]) -> bool
     }
 }
 
-// Whether what stands at each of n places passes.
-pub fn all_pass(ask: Ask, s: &[i32], places: [usize; 16], n: usize) -> bool
-    requires { EachAt (Askable ask) n places s.now }
-    ensures { result ≡ all (asked ask) (standing n places s.now) }
+// Whether what stands at each of the places passes.
+pub fn all_pass(ask: Ask, s: &[i32], places: &Places) -> bool
+    requires { EachAt (Askable ask) places.now.count places.now.at s.now }
+    ensures { result ≡ all (asked ask) (standing places.now.count places.now.at s.now) }
 {
-    for i in 0..n {
-        let at = places[i];
+    for i in 0..places.count {
+        let at = places.at[i];
         if !passes(ask, &s[at..]) {
             return false;
         }

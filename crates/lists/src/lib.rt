@@ -7,8 +7,8 @@ mod soundness; // soundness.rt: whether records have too many axes, and whether 
 mod agreeing; // agreeing.rt: the common shape of shapes
 mod starting; // starting.rt: where blocks start, and their flags
 
-pub use agreeing::{agreed_shape, larger, no_tuple};
+pub use agreeing::{agreed_shape, larger};
 pub use asks::{Ask, all_pass};
 pub use soundness::{all_sound, over_axes};
 pub use starting::{block_starts, is_zero};
-pub use walking::{Thing, behind_record, moved, places};
+pub use walking::{Places, Thing, behind_record, moved, places_of};

@@ -7,6 +7,8 @@ ghost use Rattle.rules.specs.Concatenate.{good_block, block_of};
 ghost use Rattle.lists.specs.Places.{Inside};
 ghost use Rattle.lists.specs.Starts.{blocks_at, starts_in, StartOf, StartsOf};
 
+use super::walking::Places;
+
 // The start of the block at the front of a slice by value, zeros behind it.
 fn start_of(s: &[i32], rank: usize) -> [usize; 4]
     requires { rank ≤ rank_limit }
@@ -19,15 +21,15 @@ fn start_of(s: &[i32], rank: usize) -> [usize; 4]
     start
 }
 
-// The starts of n blocks by value, each with zeros behind it; zeros behind the last one.
-pub fn block_starts(s: &[i32], places: [usize; 16], n: usize, rank: usize) -> [[usize; 4]; 16]
-    requires inside { Inside n places s.now × (rank ≤ rank_limit) }
-    requires s_value { all good_block (blocks_at rank n places s.now) ≡ true }
-    ensures { StartsOf (starts_in (blocks_at rank n places s.now)) result }
+// The starts of blocks by value, each with zeros behind it; zeros behind the last one.
+pub fn block_starts(s: &[i32], places: &Places, rank: usize) -> [[usize; 4]; 16]
+    requires inside { Inside places.now.count places.now.at s.now × (rank ≤ rank_limit) }
+    requires s_value { all good_block (blocks_at rank places.now.count places.now.at s.now) ≡ true }
+    ensures { StartsOf (starts_in (blocks_at rank places.now.count places.now.at s.now)) result }
 {
     let mut starts = [[0usize; 4]; 16];
-    for b in 0..n {
-        let at = places[b];
+    for b in 0..places.count {
+        let at = places.at[b];
         starts[b] = start_of(&s[at..], rank);
     }
     starts

@@ -1,11 +1,16 @@
 // Where things that stand end to end begin.
-ghost use Rattle.std.specs.Prelude.{map, ◌≤◌, length, drop};
+ghost use Rattle.std.specs.Prelude.{◌≡◌, map, ◌≤◌, length, drop};
 ghost use Rattle.rules.specs.Limits.{list_limit};
 ghost use Rattle.rules.specs.Record.{end_to_end, behind_shape, behind_record};
 ghost use Rattle.records.specs.EndToEnd.{Behind};
 ghost use Rattle.lists.specs.Places.{behind_thing, standing, Inside, PlacesOf};
 
-use rules::{Section, Walk};
+// Where things begin in a slice: how many there are, and the place of each; zeros behind them.
+#[derive(Clone, Copy)]
+pub struct Places {
+    pub at: [usize; 16],
+    pub count: usize,
+}
 
 // What stands end to end; a block has a start of so many numbers, a flag and a record.
 #[derive(Clone, Copy)]
@@ -32,8 +37,8 @@ fn behind_shape(s: &[i32], at: usize) -> usize
     ensures { Behind behind_shape at s.now result }
 {
     match records::section_at(&s[at..], 0, 1) {
-        Section::Whole(extents) => at + extents.next,
-        Section::Cut => s.len(),
+        Some(extents) => at + extents.next,
+        None => s.len(),
     }
 }
 
@@ -43,8 +48,8 @@ pub fn behind_record(s: &[i32], at: usize) -> usize
     ensures { Behind behind_record at s.now result }
 {
     match records::walk_record(&s[at..]) {
-        Walk::To(head) => at + head.inputs.next,
-        Walk::Broken => s.len(),
+        Some(head) => at + head.inputs.next,
+        None => s.len(),
     }
 }
 
@@ -64,29 +69,35 @@ fn behind(thing: Thing, s: &[i32], at: usize) -> usize
 }
 
 // Where each of n things begins, by value; zeros behind them.
-pub fn places(thing: Thing, s: &[i32], n: usize) -> [usize; 16]
+pub fn places_of(thing: Thing, s: &[i32], n: usize) -> Places
     requires { n ≤ list_limit }
-    ensures { PlacesOf (end_to_end (behind_thing thing) n s.now) n s.now result }
+    ensures is { PlacesOf (end_to_end (behind_thing thing) result.count s.now) result.count s.now result.at }
+    ensures count { result.count ≡ n }
 {
     let mut places = [0usize; 16];
     let mut at = 0;
-    let mut i = 0;
-    while i < n {
+    for i in 0..n {
         places[i] = at;
         at = behind(thing, s, at);
-        i += 1;
     }
-    places
+    Places {
+        at: places,
+        count: n,
+    }
 }
 
-// Each of n places so many numbers further on: the shapes of records, the records of blocks.
-pub fn moved(s: &[i32], places: [usize; 16], n: usize, by: usize) -> [usize; 16]
-    requires { Inside n places s.now }
-    ensures { PlacesOf (map (drop by) (standing n places s.now)) n s.now result }
+// Each of the places so many numbers further on: the shapes of records, the records of blocks.
+pub fn moved(s: &[i32], places: &Places, by: usize) -> Places
+    requires { Inside places.now.count places.now.at s.now }
+    ensures is { PlacesOf (map (drop by) (standing places.now.count places.now.at s.now)) result.count s.now result.at }
+    ensures count { result.count ≡ places.now.count }
 {
     let mut moved = [0usize; 16];
-    for i in 0..n {
-        moved[i] = further(s, places[i], by);
+    for i in 0..places.count {
+        moved[i] = further(s, places.at[i], by);
     }
-    moved
+    Places {
+        at: moved,
+        count: places.count,
+    }
 }

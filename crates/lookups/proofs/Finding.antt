@@ -17,7 +17,6 @@ use Rattle.rules.specs.RowsInOrder.{increasing, Increasing}
 use Rattle.rules.specs.Layout.{Layout, width}
 use Rattle.rules.specs.Record.{natural, naturals, layout_in, shape_in, sound, ordered}
 use Rattle.rules.specs.Arguments.{up_to, good_components, good_index}
-use Rattle.rules.specs.Refusals.{Verdict, given}
 use Rattle.rules.specs.Positions.{ravel_index}
 use Rattle.rules.specs.Endings.{Lookup, found, nothing}
 use Rattle.rules.specs.Lookup.{read_index, place_from, place_of, lookup}
@@ -145,7 +144,7 @@ module _ {h : Head} {s index read : List ℤ} (r : SoundRecord h s) (i : IndexRe
     below = e ∙ rw (whole_read, record_shape r)
 
     -- it is not
-    pub place_outside : not t ≡ true → given nothing ≡ given (lookup (layout_in s) (naturals index))
+    pub place_outside : not t ≡ true → nothing ≡ lookup (layout_in s) (naturals index)
     unfolding lookup
     place_outside f = rw (← below, not-true t f)
 
@@ -156,27 +155,27 @@ module _ {h : Head} {s index read : List ℤ} (r : SoundRecord h s) (i : IndexRe
 
       -- in a dense record
       pub place_raveled : {n : ℕ} → k ≡ 0 → n ≡ ravel_index (naturals read) (shape_in (take (length s - 2) (drop 2 s))) →
-          given (found n) ≡ given (lookup (layout_in s) (naturals index))
+          found n ≡ lookup (layout_in s) (naturals index)
       place_raveled z g =
-          ap given (sym (looked_up ∙ place_dense (layout_in s) (naturals index) numbers (kind_read r d ∙ z) ∙ ap found (sym (g ∙ rw (read_numbers, lent_shape r)))))
+          sym (looked_up ∙ place_dense (layout_in s) (naturals index) numbers (kind_read r d ∙ z) ∙ ap found (sym (g ∙ rw (read_numbers, lent_shape r))))
 
       -- in a diagonal one
-      pub place_alike : {x : ℕ} {v : Verdict Lookup} → k ≡ 1 → x ≡ natural (get_or read 0 (pos 0)) →
-          v ≡ given (if (all (eqb x) (naturals index)) (found x) nothing) → v ≡ given (lookup (layout_in s) (naturals index))
+      pub place_alike : {x : ℕ} {v : Lookup} → k ≡ 1 → x ≡ natural (get_or read 0 (pos 0)) →
+          v ≡ if (all (eqb x) (naturals index)) (found x) nothing → v ≡ lookup (layout_in s) (naturals index)
       place_alike {x} z g j =
           let first : x ≡ get_or numbers 0 0 = g ∙ sym (natural_get_or read 0) ∙ ap (λ (l : List ℕ). get_or l 0 0) read_numbers in
-          j ∙ ap given (sym (looked_up ∙ place_diagonal (layout_in s) (naturals index) numbers (kind_read r d ∙ z) ∙ rw (← first)))
+          j ∙ sym (looked_up ∙ place_diagonal (layout_in s) (naturals index) numbers (kind_read r d ∙ z) ∙ rw (← first))
 
       -- in a sparse one
       row_read : row_at 0 h.width read ≡ take (width (layout_in s)) numbers
       unfolding part
       row_read = rw (width_shown r, i.is, view_pos numbers)
 
-      pub place_listed : {v : Verdict Lookup} → (k ≡ 0 → ⊥) → (k ≡ 1 → ⊥) →
-          v ≡ given (place_from 0 (row_at 0 h.width read) (rows_at h.rows.first h.width h.rows.count s)) → v ≡ given (lookup (layout_in s) (naturals index))
+      pub place_listed : {v : Lookup} → (k ≡ 0 → ⊥) → (k ≡ 1 → ⊥) →
+          v ≡ place_from 0 (row_at 0 h.width read) (rows_at h.rows.first h.width h.rows.count s) → v ≡ lookup (layout_in s) (naturals index)
       place_listed m n j =
           let rows : (layout_in s).rows ≡ rows_at h.rows.first h.width h.rows.count s = ap (λ (l : Layout). l.rows) (layout_shown r) in
-          j ∙ ap given (sym (looked_up ∙ place_sparse (layout_in s) (naturals index) numbers (kind_sparse r d m n) ∙ rw (← row_read, rows)))
+          j ∙ sym (looked_up ∙ place_sparse (layout_in s) (naturals index) numbers (kind_sparse r d m n) ∙ rw (← row_read, rows))
 
   -- the row that is looked for
   pub read_row : HasRow 0 h.width read

@@ -1,4 +1,5 @@
 -- `find_all`: the first i answers stand at the front of the result. Assumes nothing.
+use Rattle.std.specs.Prelude.{None, Option, Some}
 use mathlib.Core.Path.{◌≡◌, refl, sym, ap, ◌∙◌, subst}
 use mathlib.Core.Bool.{true}
 use mathlib.Core.List.{List}
@@ -9,18 +10,13 @@ use lib.IntN.{ℤ, pos, negsuc}
 use lib.ListN.{length, get_or, set, take, drop, length-set, length-take}
 use lib.Seq.{take-suc, take_all}
 use Rattle.rules.specs.declared.Head.{Head}
-use Rattle.rules.specs.declared.Refusal.{Refusal}
-use Rattle.rules.specs.declared.Place.{Place}
-use Rattle.rules.specs.declared.Place.TheVariants.{Found, Nothing, Refused}
 use Rattle.rules.specs.Buffers.{part, over}
-use Rattle.rules.specs.Refusals.{Verdict, given, refused}
 use Rattle.rules.specs.Layout.{Layout, rank}
 use Rattle.rules.specs.Record.{natural, naturals, layout_in}
 use Rattle.rules.specs.Arguments.{good_index}
-use Rattle.rules.specs.Endings.{Lookup, found, nothing, place_says}
+use Rattle.rules.specs.Endings.{Lookup, found, nothing, lookup_of}
 use Rattle.rules.specs.Lookup.{lookup, place_number, places_of}
 use Rattle.rules.proofs.Buffers.{length_part, over_nil, over_more}
-use Rattle.rules.proofs.Unions.{never}
 use Rattle.rules.proofs.FoundAll.{places_counted, found_limited, index_there, index_good, place_there}
 use Rattle.cells.proofs.Signed.{held, back}
 use Rattle.tables.proofs.Rows.{lent_row}
@@ -32,38 +28,33 @@ use Rattle.lookups.specs.Indices.{PlaceLow, number_in, Indices}
 
 -- ---- what stands for an answer
 
-module _ {place : Place} where
-  pub place_low : {p : ℕ} → PlaceLow place → place ≡ Found p → p < 2 ^ 31
+module _ {place : Option ℕ} where
+  pub place_low : {p : ℕ} → PlaceLow place → place ≡ Some p → p < 2 ^ 31
   place_low h e = subst PlaceLow e h
 
-  pub number_found : {p : ℕ} {z : ℤ} → place ≡ Found p → PlaceLow place → z ≡ pos p → held z ≡ number_in place
+  pub number_found : {p : ℕ} {z : ℤ} → place ≡ Some p → PlaceLow place → z ≡ pos p → held z ≡ number_in place
   number_found {p} e h z = rw (z, back (pos p) (place_low h e), e)
 
-  pub number_nothing : place ≡ Nothing → negsuc 0 ≡ number_in place
+  pub number_nothing : place ≡ None → negsuc 0 ≡ number_in place
   number_nothing e = rw e
 
-  pub number_refused : {why : Refusal} → place ≡ Refused why → negsuc 0 ≡ number_in place
-  number_refused e = rw e
-
-pub ruleset numbers = (place_low, number_found, number_nothing, number_refused)
+pub ruleset numbers = (place_low, number_found, number_nothing)
 
 -- a place is not nothing
-unlike : {p : ℕ} → given (found p) ≡ given nothing → ⊥
-unlike e = let same : ◌≡◌ {A = ℕ} 0 1 = ap (λ (v : Verdict Lookup). placed v) e in omega arith
+unlike : {p : ℕ} → found p ≡ nothing → ⊥
+unlike e = let same : ◌≡◌ {A = ℕ} 0 1 = ap placed e in omega arith
   where
-    placed : Verdict Lookup → ℕ
-    placed (given (found p)) = 0
-    placed (given nothing) = 1
-    placed (refused n) = 1
+    placed : Lookup → ℕ
+    placed (found p) = 0
+    placed nothing = 1
 
 -- it is that of the rules
-numbered : (place : Place) (v : Lookup) → place_says place ≡ given v → number_in place ≡ place_number v
+numbered : (place : Option ℕ) (v : Lookup) → lookup_of place ≡ v → number_in place ≡ place_number v
 unfolding place_number
-numbered (Found p) (found n) e = let same : p ≡ n = cc in rw same
-numbered (Found p) nothing e = absurd (unlike e)
-numbered Nothing (found n) e = absurd (unlike (sym e))
-numbered Nothing nothing e = refl
-numbered (Refused why) v e = absurd (never e)
+numbered (Some p) (found n) e = let same : p ≡ n = cc in rw same
+numbered (Some p) nothing e = absurd (unlike e)
+numbered None (found n) e = absurd (unlike (sym e))
+numbered None nothing e = refl
 
 -- ---- the loop
 
@@ -110,22 +101,20 @@ module _ {h : Head} {s indices : List ℤ} {n i : ℕ} (r : SoundRecord h s) (a 
   index_fits = rw (lent_is, r.readable.head.rank) (index_good n h.rank indices a.wide i k a.good)
 
   -- a place that is found is one that a slice can hold
-  low : (place : Place) → place_says place ≡ given (lookup (layout_in s) (naturals lent)) → PlaceLow place
-  low (Found p) e =
+  low : (place : Option ℕ) → lookup_of place ≡ lookup (layout_in s) (naturals lent) → PlaceLow place
+  low (Some p) e =
       let long : length (naturals lent) ≡ rank (layout_in s) =
       length_naturals lent ∙ ap length lent_is ∙ length_part (i * h.rank) h.rank indices index_ends ∙ sym (rank_shown r) in
       let there : lookup (layout_in s) (naturals lent) ≡ found p = cc in
       omega (arith, found_limited (layout_sound r) (naturals lent) long there)
-  low Nothing e = tt
-  low (Refused why) e = tt
+  low None e = tt
 
   -- so it is stored as it is
-  stored : (place : Place) → PlaceLow place → held (number_in place) ≡ number_in place
-  stored (Found p) m = back (pos p) m
-  stored Nothing m = refl
-  stored (Refused why) m = refl
+  stored : (place : Option ℕ) → PlaceLow place → held (number_in place) ≡ number_in place
+  stored (Some p) m = back (pos p) m
+  stored None m = refl
 
-  module _ (place : Place) (e : place_says place ≡ given (lookup (layout_in s) (naturals lent))) where
+  module _ (place : Option ℕ) (e : lookup_of place ≡ lookup (layout_in s) (naturals lent)) where
     pub place_small : PlaceLow place
     place_small = low place e
 

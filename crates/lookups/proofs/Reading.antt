@@ -1,22 +1,22 @@
 -- `read_index` and `all_are`: the components of an index, one after the other. Assumes nothing.
 use mathlib.Core.Path.{◌≡◌, refl, sym, ap, ◌∙◌}
-use mathlib.Core.Bool.{Bool, true, false}
+use mathlib.Core.Bool.{Bool, true, false, ◌&&◌}
 use mathlib.Core.List.{List, [], ◌∷◌, ◌++◌, map, map-append}
 use Prim.Native.Nat.{ℕ, zero, suc, ◌+◌, ◌≤◌, ◌<◌, ◌^◌}
 use native.Mathlib.Numerals.{add-one}
 use native.Mathlib.Omega.{arith}
-use borrow.Author.Tests.{eq-eqb, ne_eqb}
+use borrow.Author.Tests.{ne_eqb}
 use lib.Dec.{eqb}
 use lib.IntN.{ℤ, pos}
-use lib.ListN.{length, get_or, take, set, length-take, length-map}
-use lib.Seq.{take-suc, take_all}
+use lib.ListN.{length, get_or, take, drop, set, length-take, length-map, drop_of_length-le}
+use lib.Seq.{take-suc, take_all, drop-cons}
+use Rattle.std.specs.List.{list_all, range_with_len}
 use Rattle.rules.specs.Lists.{if, all}
 use Rattle.rules.specs.Buffers.{over, zeros}
 use Rattle.rules.specs.Record.{natural, naturals, shape_in}
 use Rattle.rules.specs.Lookup.{read_index}
 use Rattle.rules.proofs.Buffers.{over_nil, over_more}
 use Rattle.rules.proofs.Finding.{read_length}
-use Rattle.tables.proofs.Passing.{Passed, none_passed, one_more, one_fails, all_passed}
 use Rattle.shapes.specs.Judged.{Judged}
 use Rattle.shapes.proofs.Judging.{rank_counted, rank_small}
 use Rattle.shapes.proofs.Reading.{length_naturals, natural_there}
@@ -112,29 +112,11 @@ pub ruleset reading = (component_low, read_start, read_turn, read_done)
 
 -- ---- all the same
 
--- the first k components are v
-pub record AllAre (index : List ℤ) (v k : ℕ) : Type 0 where
-  pub passed : Passed (eqb v) (length index) k (naturals index)
-
--- before the first
-pub are_start : {index : List ℤ} {v : ℕ} → AllAre index v 0
-are_start {index} = record { passed = none_passed (length_naturals index) }
-
-module _ {index : List ℤ} {v k : ℕ} (p : AllAre index v k) where
-  module _ {x : ℕ} (h : k < length index) (f : x ≡ natural (get_or index k (pos 0))) where
-    tested : eqb v x ≡ eqb v (get_or (naturals index) k 0)
-    tested = ap (eqb v) (natural_there index k f)
-
-    -- the next component is v
-    pub are_turn : x ≡ v → AllAre index v (k + 1)
-    are_turn e = record { passed = one_more p.passed 0 h tested (eq-eqb v x (sym e)) }
-
-    -- the next component is another
-    pub are_stop : (x ≡ v → ⊥) → false ≡ all (eqb v) (naturals index)
-    are_stop n = one_fails p.passed 0 h tested (ne_eqb v x (λ (e : v ≡ x). n (sym e)))
-
-  -- all are v
-  pub are_done : length index ≤ k → true ≡ all (eqb v) (naturals index)
-  are_done h = all_passed p.passed h
-
-pub ruleset sames = (are_start, are_turn, are_stop, are_done)
+-- the test put to each of the n components from a on, by their places, is that put to the components
+pub are_all : (index : List ℤ) (v a n : ℕ) → a + n ≡ length index →
+    list_all (λ k. eqb v (natural (get_or index k (pos 0)))) (range_with_len a n) ≡ all (eqb v) (naturals (drop a index))
+unfolding all
+are_all index v a zero e = rw (drop_of_length-le index {i = a} (omega arith))
+are_all index v a (suc n) e =
+    let inside : a < length index = omega arith in
+    rw (drop-cons index a (pos 0), add-one) (ap (λ t. eqb v (natural (get_or index a (pos 0))) && t) (are_all index v (suc a) n (omega arith)))

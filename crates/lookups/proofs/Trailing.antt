@@ -52,7 +52,7 @@ module _ {shape : List ℤ} {left : ℕ} (t : Trailing shape left) (h : 0 < left
     min_turn g = record { upto = omega (arith, t.upto); eq = t.eq ∙ rw (last, ← f, g) (last_one (take (left - 1) (shape_in shape))) }
 
     -- its extent is another
-    pub min_stop : (e ≡ 1 → ⊥) → left ≡ min_rank_of (shape_in shape)
+    pub min_stop : (e ≡ 1 → ⊥) → left - 1 + 1 ≡ min_rank_of (shape_in shape)
     min_stop n =
         let size : length (take (left - 1) (shape_in shape)) ≡ left - 1 = simp length-take (omega (arith, t.upto)) in
         sym (t.eq ∙ rw (last, ← f, last_other (take (left - 1) (shape_in shape)) e n) (omega arith))

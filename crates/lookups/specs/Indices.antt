@@ -1,7 +1,6 @@
 -- What is known of an index once it was judged, and of many; and what stands for the answer of a lookup.
+use Rattle.std.specs.Prelude.{None, Option, Some}
 use Rattle.std.specs.Prelude.{◌≡◌, true, List, map, ℕ, ◌*◌, ◌^◌, ◌<◌, ℤ, pos, negsuc, length, get_or}
-use Rattle.rules.specs.declared.Place.{Place}
-use Rattle.rules.specs.declared.Place.TheVariants.{Found, Nothing, Refused}
 use Rattle.rules.specs.Record.{natural, naturals, layout_in}
 use Rattle.rules.specs.Arguments.{good_components, good_index}
 use Rattle.rules.specs.Lookup.{read_index}
@@ -17,13 +16,11 @@ pub record Indices (n r : ℕ) (indices : List ℤ) : Type 0 where
   pub good : good_components indices ≡ true
 
 -- a place that a slice can hold
-abbrev pub PlaceLow : Place → Type 0
-PlaceLow (Found p) = p < 2 ^ 31
-PlaceLow Nothing = Unit
-PlaceLow (Refused why) = Unit
+abbrev pub PlaceLow : Option ℕ → Type 0
+PlaceLow (Some p) = p < 2 ^ 31
+PlaceLow None = Unit
 
 -- the number that stands for an answer
-abbrev pub number_in : Place → ℤ
-number_in (Found p) = pos p
-number_in Nothing = negsuc 0
-number_in (Refused why) = negsuc 0
+abbrev pub number_in : Option ℕ → ℤ
+number_in (Some p) = pos p
+number_in None = negsuc 0

@@ -11,6 +11,7 @@ ghost use Rattle.parts.specs.Parts.{rank_at, layout_at, Holds};
 ghost use Rattle.lowering.specs.Lowering.{Axes, last_axes, last_positions, with_tails, all_tails, RowAsked, RowsAsked, DiagonalAsked, diagonal_of, LowerAsked, removes_axes, lowered_deps, DepsAsked};
 
 // The product of the extents from axis w on, of the shape of `rank` extents at a place.
+#[tactic(auto, using(crate::proofs::LastAxes::laws))]
 pub fn product(s: &[i32], at: usize, w: usize, rank: usize) -> usize
     requires { Axes at w rank s.now }
     ensures { result ≡ product_of (last_axes at w rank s.now) }
@@ -35,13 +36,11 @@ pub fn list_row(
     ensures { Taken to width (with_tails w rank (row_at from read s.old) (last_positions extents w rank s.old)) s.old s.new result }
 {
     let mut row = tables::read_row(s, from, read);
-    let mut number = 0;
-    while number < size {
+    for number in 0..size {
         axes::unravel_into(number, s, extents + w, rank - w, &mut row, w);
         if !tables::put_row(s, to, width, &row, 0) {
             return false;
         }
-        number += 1;
     }
     true
 }
@@ -62,8 +61,7 @@ pub fn list_rows(
 {
     let count = cells::get(s, from);
     let size = product(s, extents, w, rank);
-    let mut i = 0;
-    while i < count {
+    for i in 0..count {
         if !list_row(
             s,
             from + 1 + i * read,
@@ -77,24 +75,22 @@ pub fn list_rows(
         ) {
             return false;
         }
-        i += 1;
     }
     true
 }
 
 // The rows (i,..,i) for each i below an extent are put into the table; false where that makes too many rows.
+#[tactic(auto, using(crate::proofs::Diagonals::laws))]
 pub fn list_diagonal(s: &mut [i32], to: usize, w: usize, extent: usize) -> bool
     requires { DiagonalAsked to w extent s.old }
     ensures { Taken to w (diagonal_of w extent) s.old s.new result }
 {
-    let mut i = 0;
-    while i < extent {
+    for i in 0..extent {
         let number = cells::whole(i);
         let row = [number; 5];
         if !tables::put_row(s, to, w, &row, 0) {
             return false;
         }
-        i += 1;
     }
     true
 }
@@ -139,14 +135,12 @@ pub fn lower_into(s: &mut [i32], at: usize, d: usize, to: usize, rising: bool) -
 }
 
 // Whether the layout at a place loses dense axes where its D is lowered to d.
+#[tactic(auto, using(crate::proofs::LoweredDeps::removes_laws))]
 pub fn removes_axes(s: &[i32], at: usize, d: usize) -> bool
     requires { Holds at s.now }
     ensures { result ≡ removes_axes (layout_at at s.now) d }
 {
-    if cells::get(s, at) == 1 {
-        return false;
-    }
-    d < cells::get(s, at + parts::DENSE)
+    cells::get(s, at) != 1 && d < cells::get(s, at + parts::DENSE)
 }
 
 // One list of the dependencies of the layout at a place, with its D lowered to d, becomes a table, in order; false where they are too many.

@@ -1,4 +1,5 @@
 -- Sections of a part stay while others are written, and together they are its layout. Assumes nothing.
+use Rattle.std.specs.Prelude.{Ok}
 use mathlib.Core.Path.{◌≡◌, ◌∙◌}
 use mathlib.Core.List.{List}
 use mathlib.Core.Logic.{◌⊎◌, inl}
@@ -6,7 +7,6 @@ use Prim.Native.Nat.{ℕ, ◌+◌, ◌≤◌}
 use native.Mathlib.Omega.{arith}
 use lib.IntN.{ℤ}
 use lib.ListN.{length, get_or}
-use Rattle.rules.specs.declared.Step.TheVariants.{Done}
 use Rattle.rules.specs.Limits.{rank_limit, entry_limit}
 use Rattle.rules.specs.Refusals.{Verdict, given}
 use Rattle.rules.specs.Layout.{Layout, rank, width}
@@ -46,5 +46,5 @@ unfolding layout_at
 assembled h rows states inputs = rw (h.kind_is, h.dense_is, h.rank_is, h.shape_is, rows.rows_are, states.rows_are, inputs.rows_are)
 
 -- a step that made the layout that a rule gives says so
-pub says_made : {v : Verdict Layout} {l : Layout} {t : List ℤ} → v ≡ given l → layout_at 0 t ≡ l → Sound l → DepsLow l → part_size ≤ length t → Says v 0 t Done
+pub says_made : {v : Verdict Layout} {l : Layout} {t : List ℤ} → v ≡ given l → layout_at 0 t ≡ l → Sound l → DepsLow l → part_size ≤ length t → Says v 0 t (Ok tt)
 says_made e f s low h = record { is = rw (e, f); holds = λ _. record { inside = h; sound = rw f s; low = rw f low } }

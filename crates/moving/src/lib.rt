@@ -12,7 +12,7 @@ ghost use Rattle.tables.specs.Rows.{row_at, rows_at};
 ghost use Rattle.records.specs.Sound.{SoundRecord};
 ghost use Rattle.parts.specs.Parts.{part_size, rows_from};
 ghost use Rattle.moving.specs.Sections.{HeadAsked, HeadMade, TableMade};
-ghost use Rattle.moving.specs.Fitting.{Smaller, FitAsked};
+ghost use Rattle.moving.specs.Fitting.{FitAsked};
 ghost use Rattle.moving.specs.Picking.{picked, shorter_places, RowAsked, PickAsked, DepsPicked};
 
 use rules::{Entries, Head};
@@ -90,15 +90,14 @@ pub fn pick_sorted(
     ensures { TableMade at w (sorted (map (picked 0 (take w places)) (rows_at rows.first width rows.count s.now))) part.old part.new }
 {
     cells::store(part, at, 0);
-    let mut i = 0;
-    while i < rows.count {
+    for i in 0..rows.count {
         let row = picked_row(s, rows.first + i * width, width, 0, places, w);
         tables::put_row(part, at, w, &row, 0);
-        i += 1;
     }
 }
 
-// The same with the rows as they come.
+// The same with the rows as they come. One function for both would be lent what is done with a row, as a closure: it saves the two
+// lines that they share, and its contract has to say what each turn keeps.
 pub fn pick_as_they_come(
     s: &[i32],
     rows: Entries,
@@ -112,25 +111,22 @@ pub fn pick_as_they_come(
     ensures { TableMade at w (map (picked 0 (take w places)) (rows_at rows.first width rows.count s.now)) part.old part.new }
 {
     cells::store(part, at, 0);
-    let mut i = 0;
-    while i < rows.count {
+    for i in 0..rows.count {
         let row = picked_row(s, rows.first + i * width, width, 0, places, w);
         tables::insert_at(part, at, w, i, i, &row, 0);
-        i += 1;
     }
 }
 
-// Rows, each cut to its first w numbers, become the table at a place of a part, in order and once each.
+// Rows, each cut to its first w numbers, become the table at a place of a part, in order and once each. `pick_sorted` with the
+// places 0 to 4 makes the same of 64 rows in 4,182 instructions more, by callgrind: it copies each row.
 pub fn cut_sorted(s: &[i32], rows: Entries, width: usize, w: usize, part: &mut [i32], at: usize)
     requires pick_asked { PickAsked rows width w s.now at part.old }
     requires w_le_width { w ≤ width }
     ensures { TableMade at w (sorted (map (take w) (rows_at rows.first width rows.count s.now))) part.old part.new }
 {
     cells::store(part, at, 0);
-    let mut i = 0;
-    while i < rows.count {
+    for i in 0..rows.count {
         tables::put_row(part, at, w, s, rows.first + i * width);
-        i += 1;
     }
 }
 
@@ -141,20 +137,8 @@ pub fn pick_deps(s: &[i32], head: Head, places: [usize; 5], w: usize, part: &mut
     ensures { DepsPicked (take w places) w (layout_in s.now) part.old part.new }
 {
     let width = head.rank + 1;
-    let states = head.states;
-    let inputs = head.inputs;
-    pick_sorted(s, states, width, places, w, part, parts::STATES);
-    pick_sorted(s, inputs, width, places, w, part, parts::INPUTS);
-}
-
-// The smaller of two numbers.
-pub fn smaller(a: usize, b: usize) -> usize
-    ensures { Smaller a b result }
-{
-    if a < b {
-        return a;
-    }
-    b
+    pick_sorted(s, head.states, width, places, w, part, parts::STATES);
+    pick_sorted(s, head.inputs, width, places, w, part, parts::INPUTS);
 }
 
 // The dependency at a place fitted to a rank: its index cut, or 0 on the new axes; its number stays behind.
@@ -163,7 +147,7 @@ pub fn fitted(from: &[i32], at: usize, old: usize, rank: usize) -> [i32; 5]
     ensures { row_at 0 (rank + 1) result ≡ on_index (fit_to rank 0) (row_at at (old + 1) from.now) }
 {
     let mut entry = [0i32; 5];
-    let end = at + smaller(old, rank);
+    let end = at + old.min(rank);
     cells::copy(&from[at..end], &mut entry);
     cells::copy_at(&mut entry, rank, from, at + old);
     entry

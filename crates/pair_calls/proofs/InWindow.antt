@@ -1,11 +1,12 @@
 -- Two records loaded into the window and combined there by a step, by any rule. Assumes nothing.
+use Rattle.std.specs.Prelude.{Result, ⊤}
+use Rattle.rules.specs.declared.Refusal.{Refusal}
 use mathlib.Core.Path.{◌≡◌}
 use mathlib.Core.List.{List}
 use Prim.Native.Nat.{◌≤◌}
 use native.Mathlib.Omega.{arith}
 use lib.IntN.{ℤ}
 use lib.ListN.{length}
-use Rattle.rules.specs.declared.Step.{Step}
 use Rattle.rules.specs.Limits.{work_size}
 use Rattle.rules.specs.Refusals.{Verdict}
 use Rattle.rules.specs.Layout.{Layout}
@@ -27,7 +28,7 @@ module _ {s t : List ℤ} (work : List ℤ) (long : work_size ≤ length work) {
   asked_in_window = rw (window_again work long w w-size) p.holds
 
   -- the step came back with what it made
-  module _ {rule : Layout → Layout → Verdict Layout} {u : List ℤ} {step : Step} (m : Combined rule (lent_of 0 window_size (back_in 0 window_size work w)) u step) where
+  module _ {rule : Layout → Layout → Verdict Layout} {u : List ℤ} {step : (Result ⊤ Refusal)} (m : Combined rule (lent_of 0 window_size (back_in 0 window_size work w)) u step) where
     pub says_in_window : Says (rule (layout_in s) (layout_in t)) target (back_in 0 window_size (back_in 0 window_size work w) u) step
     says_in_window =
         window_says (back_in 0 window_size work w) loaded_long u m.only.size

@@ -12,9 +12,7 @@ ghost use Rattle.rules.specs.Union.{union_call};
 ghost use Rattle.rules.specs.Intersect.{intersect_call};
 
 pub use filter::filter_deps_from;
-use judging::Sizes;
-use records::Finding;
-use rules::{Refusal, Written};
+use rules::Refusal;
 
 // Whether both of two tests hold.
 fn both(a: bool, b: bool) -> bool
@@ -27,17 +25,20 @@ fn both(a: bool, b: bool) -> bool
 }
 
 // The union of two records goes to the result.
-pub fn union(left: &[i32], right: &[i32], res: &mut [i32], work: &mut [i32]) -> Written
+pub fn union(
+    left: &[i32],
+    right: &[i32],
+    res: &mut [i32],
+    work: &mut [i32],
+) -> Result<usize, Refusal>
     ensures { Ends (in_form encode (union_call left.now right.now (length res.old) (length work.old))) res.old work.old result res.new work.new }
 {
     let over = judging::either(records::over_record(left), records::over_record(right));
-    if let Sizes::Refused(why) = judging::judge_sizes(over, res.len(), work.len()) {
-        return Written::Refused(why);
-    }
-    let Finding::Sound(first, left_ordered) = records::judged(left) else {
+    judging::judge_sizes(over, res.len(), work.len())?;
+    let Some((first, left_ordered)) = records::judged(left) else {
         return parts::refuse(Refusal::Unsound, work);
     };
-    let Finding::Sound(second, right_ordered) = records::judged(right) else {
+    let Some((second, right_ordered)) = records::judged(right) else {
         return parts::refuse(Refusal::Unsound, work);
     };
     let rising = both(left_ordered, right_ordered);
@@ -47,17 +48,20 @@ pub fn union(left: &[i32], right: &[i32], res: &mut [i32], work: &mut [i32]) -> 
 }
 
 // The intersection of two ordered records goes to the result.
-pub fn intersect(left: &[i32], right: &[i32], res: &mut [i32], work: &mut [i32]) -> Written
+pub fn intersect(
+    left: &[i32],
+    right: &[i32],
+    res: &mut [i32],
+    work: &mut [i32],
+) -> Result<usize, Refusal>
     ensures { Ends (in_form encode (intersect_call left.now right.now (length res.old) (length work.old))) res.old work.old result res.new work.new }
 {
-    let over = judging::either(records::over_record(left), records::over_record(right));
-    if let Sizes::Refused(reason) = judging::judge_sizes(over, res.len(), work.len()) {
-        return Written::Refused(reason);
-    }
-    let Finding::Sound(first, left_ordered) = records::judged(left) else {
+    let wide = judging::either(records::over_record(left), records::over_record(right));
+    judging::judge_sizes(wide, res.len(), work.len())?;
+    let Some((first, left_ordered)) = records::judged(left) else {
         return parts::refuse(Refusal::Unsound, work);
     };
-    let Finding::Sound(second, right_ordered) = records::judged(right) else {
+    let Some((second, right_ordered)) = records::judged(right) else {
         return parts::refuse(Refusal::Unsound, work);
     };
     if !both(left_ordered, right_ordered) {

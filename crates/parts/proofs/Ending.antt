@@ -1,4 +1,5 @@
 -- How a call ends that hands its step to `finish` or `refuse`. Assumes nothing.
+use Rattle.std.specs.Prelude.{Err, Ok, Result, ⊤}
 use mathlib.Core.Path.{◌≡◌, refl, sym, ap, ◌∙◌}
 use mathlib.Core.List.{List}
 use Prim.Native.Nat.{ℕ, ◌≤◌}
@@ -6,10 +7,6 @@ use native.Mathlib.Omega.{arith}
 use borrow.Author.Tests.{ne_eqb}
 use lib.IntN.{ℤ}
 use Rattle.rules.specs.declared.Refusal.{Refusal}
-use Rattle.rules.specs.declared.Step.{Step}
-use Rattle.rules.specs.declared.Step.TheVariants.{Done, Refused as NoStep}
-use Rattle.rules.specs.declared.Written.{Written}
-use Rattle.rules.specs.declared.Written.TheVariants.{Numbers, Refused}
 use Rattle.rules.specs.Buffers.{over, zeros}
 use Rattle.rules.specs.Refusals.{Verdict, given, refused, in_form, number_of}
 use Rattle.rules.specs.Layout.{Layout, encode}
@@ -23,15 +20,15 @@ use Rattle.parts.specs.Answers.{Stored, Says, Finished}
 
 -- ---- `finish`
 
-module _ {step : Step} {at : ℕ} {work result work' : List ℤ} (w : work' ≡ over (zeros work_size) work) where
+module _ {step : (Result ⊤ Refusal)} {at : ℕ} {work result work' : List ℤ} (w : work' ≡ over (zeros work_size) work) where
   -- a layout was made, and stored
-  pub finished_done : {part : List ℤ} {n : ℕ} {result' : List ℤ} → step ≡ Done → layout_at 0 part ≡ layout_at at work → Stored part result result' n →
-      Finished step at work result (Numbers n) work' result'
+  pub finished_done : {part : List ℤ} {n : ℕ} {result' : List ℤ} → step ≡ Ok tt → layout_at 0 part ≡ layout_at at work → Stored part result result' n →
+      Finished step at work result (Ok n) work' result'
   unfolding result_after
   finished_done e l s = record { answer = rw (e, ← l) (ap given s.count); result_is = rw (e, ← l) s.is; work_is = w }
 
   -- the step was refused
-  pub finished_refused : {x : Refusal} {r : Written} → step ≡ NoStep x → r ≡ Refused x → Finished step at work result r work' result
+  pub finished_refused : {x : Refusal} {r : (Result ℕ Refusal)} → step ≡ Err x → r ≡ Err x → Finished step at work result r work' result
   unfolding result_after
   finished_refused e f = record { answer = rw (e, f); result_is = rw e; work_is = w }
 
@@ -57,7 +54,7 @@ late_work (given l) p work = refl
 late_work (refused n) p work = rw (ne_eqb n 1 (λ e. omega arith), ne_eqb n 2 (λ e. omega arith))
 
 -- a call that ends with `finish`, whose step said v
-pub call_finished : {v : Verdict Layout} {step : Step} {at : ℕ} {work now work' result result' : List ℤ} {r : Written} →
+pub call_finished : {v : Verdict Layout} {step : (Result ⊤ Refusal)} {at : ℕ} {work now work' result result' : List ℤ} {r : (Result ℕ Refusal)} →
     Says v at now step → Late v → Only 0 work_size work now → Finished step at now result r work' result' →
     Ends (in_form encode v) result work r result' work'
 call_finished {v} {step} {at} {work} {now} e late o f = record {
@@ -67,8 +64,8 @@ call_finished {v} {step} {at} {work} {now} e late o f = record {
 }
 
 -- a call that ends with `refuse`
-pub call_refused : {v : Verdict Layout} {x : Refusal} {work now work' result : List ℤ} {r : Written} →
-    v ≡ refused (number_of x) → 3 ≤ number_of x → Only 0 work_size work now → (r ≡ Refused x) × (work' ≡ over (zeros work_size) now) →
+pub call_refused : {v : Verdict Layout} {x : Refusal} {work now work' result : List ℤ} {r : (Result ℕ Refusal)} →
+    v ≡ refused (number_of x) → 3 ≤ number_of x → Only 0 work_size work now → (r ≡ Err x) × (work' ≡ over (zeros work_size) now) →
     Ends (in_form encode v) result work r result work'
 unfolding result_after
 call_refused {v} {x} {work} {now} e late o f = rw e (record {

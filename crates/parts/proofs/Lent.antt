@@ -1,12 +1,12 @@
 -- Numbers of a slice that are lent from its middle, with parts among them, and come back. Assumes nothing.
+use Rattle.std.specs.Prelude.{Err, Ok, Result, ⊤}
+use Rattle.rules.specs.declared.Refusal.{Refusal}
 use mathlib.Core.Path.{◌≡◌, refl, sym, ap, ◌∙◌}
 use mathlib.Core.List.{List, ◌++◌}
 use Prim.Native.Nat.{ℕ, ◌+◌, ◌-◌, ◌≤◌}
 use native.Mathlib.Omega.{arith}
 use lib.IntN.{ℤ}
 use lib.ListN.{length, take, drop}
-use Rattle.rules.specs.declared.Step.{Step}
-use Rattle.rules.specs.declared.Step.TheVariants.{Done, Refused}
 use Rattle.rules.specs.Buffers.{part, put}
 use Rattle.rules.specs.Refusals.{Verdict, given}
 use Rattle.rules.specs.Layout.{Layout}
@@ -19,9 +19,9 @@ use Rattle.parts.specs.Answers.{Says}
 use Rattle.parts.proofs.Holds.{Moved, layout_moved, holds_moved}
 
 -- a step that is refused says nothing of a layout
-says_same : (step : Step) {l m : Layout} → (step ≡ Done → l ≡ m) → step_says step l ≡ step_says step m
-says_same Done e = ap given (e refl)
-says_same (Refused x) e = refl
+says_same : (step : Result ⊤ Refusal) {l m : Layout} → (step ≡ Ok tt → l ≡ m) → step_says step l ≡ step_says step m
+says_same (Ok tt) e = ap given (e refl)
+says_same (Err x) e = refl
 
 -- the numbers of s from a up to e, as they are lent
 abbrev pub lent_of : ℕ → ℕ → List ℤ → List ℤ
@@ -82,7 +82,7 @@ module _ (a e : ℕ) (s : List ℤ) (h : a ≤ e) (l : e ≤ length s) where
       back_holds g = holds_moved back_same g (omega (arith, back_only.size))
 
       -- what a step says of a part among them
-      pub back_says : {v : Verdict Layout} {step : Step} → Says v b new step → Says v c (back_in a e s new) step
+      pub back_says : {v : Verdict Layout} {step : (Result ⊤ Refusal)} → Says v b new step → Says v c (back_in a e s new) step
       back_says {step = step} d = record {
         is = says_same step (λ x. back_layout (d.holds x)) ∙ d.is;
         holds = λ x. back_holds (d.holds x);

@@ -1,4 +1,6 @@
 -- A window of parts: two records loaded into it, and what a step says in it. Assumes nothing.
+use Rattle.std.specs.Prelude.{Result, ⊤}
+use Rattle.rules.specs.declared.Refusal.{Refusal}
 use mathlib.Core.Path.{◌≡◌, refl, ◌∙◌}
 use mathlib.Core.Logic.{inl}
 use mathlib.Core.List.{List}
@@ -6,7 +8,6 @@ use Prim.Native.Nat.{◌≤◌}
 use native.Mathlib.Omega.{arith}
 use lib.IntN.{ℤ}
 use lib.ListN.{length}
-use Rattle.rules.specs.declared.Step.{Step}
 use Rattle.rules.specs.Refusals.{Verdict}
 use Rattle.rules.specs.Layout.{Layout}
 use Rattle.tables.specs.Tables.{Only}
@@ -54,7 +55,7 @@ module _ (work : List ℤ) (long : work_size ≤ length work) (w : List ℤ) (sa
   pub window_only : Only 0 window_size work (back_in 0 window_size work w)
   window_only = back_only 0 window_size work (omega arith) (omega arith) w same
 
-  pub window_says : {v : Verdict Layout} {step : Step} → Says v target w step → Says v target (back_in 0 window_size work w) step
+  pub window_says : {v : Verdict Layout} {step : (Result ⊤ Refusal)} → Says v target w step → Says v target (back_in 0 window_size work w) step
   window_says d = back_says 0 window_size work (omega arith) (omega arith) w same target target refl (omega arith) d
 
 -- ---- one part at the front of the working buffer
@@ -63,5 +64,5 @@ module _ (work : List ℤ) (long : work_size ≤ length work) (p : List ℤ) (sa
   pub part_only : Only 0 part_size work (back_in 0 part_size work p)
   part_only = back_only 0 part_size work (omega arith) (omega arith) p same
 
-  pub part_says : {v : Verdict Layout} {step : Step} → Says v 0 p step → Says v 0 (back_in 0 part_size work p) step
+  pub part_says : {v : Verdict Layout} {step : (Result ⊤ Refusal)} → Says v 0 p step → Says v 0 (back_in 0 part_size work p) step
   part_says d = back_says 0 part_size work (omega arith) (omega arith) p same 0 0 refl (omega arith) d

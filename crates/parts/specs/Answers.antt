@@ -1,13 +1,12 @@
 -- What the functions of this crate answer, and what the lent slices then hold.
+use Rattle.std.specs.Prelude.{Ok, Result, ⊤}
+use Rattle.rules.specs.declared.Refusal.{Refusal}
 use Rattle.std.specs.Prelude.{◌≡◌, List, map, ℕ, ◌+◌, ◌≤◌, ℤ, pos, length}
-use Rattle.rules.specs.declared.Step.{Step}
-use Rattle.rules.specs.declared.Step.TheVariants.{Done}
-use Rattle.rules.specs.declared.Written.{Written}
 use Rattle.rules.specs.Buffers.{over, put, zeros}
 use Rattle.rules.specs.Refusals.{Verdict, in_form}
 use Rattle.rules.specs.Layout.{Layout, section, encode}
 use Rattle.rules.specs.Record.{layout_in}
-use Rattle.rules.specs.Endings.{written_says, step_says, result_after}
+use Rattle.rules.specs.Endings.{says, step_says, result_after}
 use Rattle.tables.specs.Tables.{table_at, room_end}
 use Rattle.rules.specs.Limits.{work_size}
 use Rattle.parts.specs.Parts.{left, right, layout_at, Holds, Window}
@@ -39,16 +38,16 @@ pub record Stored (part t u : List ℤ) (r : ℕ) : Type 0 where
   pub count : r ≡ length (encode (layout_at 0 part))
 
 -- what a step says of the part at a place, as a record
-abbrev pub record_said : Step → ℕ → List ℤ → Verdict (List ℤ)
+abbrev pub record_said : Result ⊤ Refusal → ℕ → List ℤ → Verdict (List ℤ)
 record_said step at work = in_form encode (step_says step (layout_at at work))
 
 -- a step says v: a layout, which stands in the part at a place, or a refusal
-pub record Says (v : Verdict Layout) (at : ℕ) (s : List ℤ) (step : Step) : Type 0 where
+pub record Says (v : Verdict Layout) (at : ℕ) (s : List ℤ) (step : Result ⊤ Refusal) : Type 0 where
   pub is : step_says step (layout_at at s) ≡ v
-  pub holds : step ≡ Done → Holds at s
+  pub holds : step ≡ Ok tt → Holds at s
 
 -- the end of a step: its answer, its record in the result, and a clear working buffer
-pub record Finished (step : Step) (at : ℕ) (work result : List ℤ) (r : Written) (work' result' : List ℤ) : Type 0 where
-  pub answer : written_says r ≡ in_form length (record_said step at work)
+pub record Finished (step : Result ⊤ Refusal) (at : ℕ) (work result : List ℤ) (r : Result ℕ Refusal) (work' result' : List ℤ) : Type 0 where
+  pub answer : says r ≡ in_form length (record_said step at work)
   pub result_is : result' ≡ result_after (record_said step at work) result
   pub work_is : work' ≡ over (zeros work_size) work

@@ -1,8 +1,8 @@
 // Layouts in parts of the working buffer: taken from a record, written as one, and the end of a call.
 #![tactic(auto)]
 
+ghost use Rattle.std.specs.Prelude.{Ok};
 ghost use Rattle.std.specs.Prelude.{◌≡◌, ◌+◌, ◌-◌, ◌≤◌, length};
-ghost use Rattle.rules.specs.declared.Step.TheVariants.{Done};
 ghost use Rattle.rules.specs.Buffers.{part, over, put, zeros};
 ghost use Rattle.tables.specs.Tables.{room_end, Fits};
 ghost use Rattle.records.specs.Sound.{SoundRecord};
@@ -10,7 +10,7 @@ ghost use Rattle.rules.specs.Limits.{work_size};
 ghost use Rattle.parts.specs.Parts.{part_size, window_size, Holds};
 ghost use Rattle.parts.specs.Answers.{Loaded, PairLoaded, TableStored, Stored, Finished};
 
-use rules::{Head, Refusal, Step, Written};
+use rules::{Head, Refusal};
 
 // The working buffer: six parts, each as long as the longest record.
 pub const PART: usize = rules::RESULT_SIZE;
@@ -110,27 +110,32 @@ pub fn store(part: &[i32], res: &mut [i32]) -> usize
 }
 
 // Refuses, with the working buffer cleared.
-pub fn refuse(reason: Refusal, work: &mut [i32]) -> Written
+pub fn refuse(reason: Refusal, work: &mut [i32]) -> Result<usize, Refusal>
     requires { work_size ≤ length work.old }
-    ensures { (result ≡ Written.Refused reason) × (work.new ≡ over (zeros work_size) work.old) }
+    ensures { (result ≡ Err reason) × (work.new ≡ over (zeros work_size) work.old) }
 {
     cells::clear(work, WORK);
-    Written::Refused(reason)
+    Err(reason)
 }
 
 // The end of a call: the layout that a step made goes to the result, or its refusal is handed on; the working buffer is cleared.
-pub fn finish(step: Step, work: &mut [i32], at: usize, res: &mut [i32]) -> Written
+pub fn finish(
+    step: Result<(), Refusal>,
+    work: &mut [i32],
+    at: usize,
+    res: &mut [i32],
+) -> Result<usize, Refusal>
     requires work_size_in_bounds { (work_size ≤ length work.old) × (part_size ≤ length res.old) }
-    requires holds { step ≡ Done → Holds at work.old }
+    requires holds { step ≡ Ok tt → Holds at work.old }
     ensures { Finished step at work.old res.old result work.new res.new }
 {
     match step {
-        Step::Done => {
+        Ok(()) => {
             let end = at + PART;
             let n = store(&work[at..end], res);
             cells::clear(work, WORK);
-            Written::Numbers(n)
+            Ok(n)
         }
-        Step::Refused(reason) => refuse(reason, work),
+        Err(reason) => refuse(reason, work),
     }
 }

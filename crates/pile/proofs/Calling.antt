@@ -1,4 +1,6 @@
 -- What an exchange asks of the slots at two places is what `exchange_call` asks. Assumes nothing.
+use Rattle.std.specs.Prelude.{Err, Result, ⊤}
+use Rattle.rules.specs.declared.Refusal.{Refusal}
 use mathlib.Core.Path.{◌≡◌, refl}
 use mathlib.Core.Bool.{Bool, true, false, not, ◌&&◌, ◌||◌}
 use mathlib.Core.List.{List, [], ◌∷◌}
@@ -6,8 +8,6 @@ use Prim.Native.Nat.{ℕ, ◌*◌, ◌/◌, ◌<◌, ◌≤◌}
 use borrow.Author.Tests.{lt-ltb, le-ltb}
 use lib.IntN.{ℤ}
 use lib.ListN.{length}
-use Rattle.rules.specs.declared.Step.{Step}
-use Rattle.rules.specs.declared.Step.TheVariants.{Refused}
 use Rattle.rules.specs.declared.Refusal.TheVariants.{ShortBuffer, WrongArgument}
 use Rattle.rules.specs.Limits.{result_size, work_size}
 use Rattle.rules.specs.Buffers.{part, over, zeros}
@@ -51,18 +51,18 @@ module _ (pile : List ℤ) (first second : ℤ) where
 
   module _ (work : List ℤ) where
     -- 2: nothing is touched
-    pub ends_short : length work < work_size → Exchanged (exchange_call pile first second (length work)) pile work (Refused ShortBuffer) pile work
+    pub ends_short : length work < work_size → Exchanged (exchange_call pile first second (length work)) pile work (Err ShortBuffer) pile work
     unfolding exchange_call lowest number_of work_after
     ends_short h = rw (lt-ltb (length work) work_size h) (record { answer = refl; pile_is = refl; work_is = refl })
 
     module _ (h : work_size ≤ length work) where
       -- 5: the working buffer is cleared
       pub ends_wrong : {work' : List ℤ} → are_two_places first second (length pile / result_size) ≡ false → work' ≡ over (zeros work_size) work →
-          Exchanged (exchange_call pile first second (length work)) pile work (Refused WrongArgument) pile work'
+          Exchanged (exchange_call pile first second (length work)) pile work (Err WrongArgument) pile work'
       unfolding exchange_call lowest number_of work_after
       ends_wrong e w = rw (le-ltb (length work) work_size h, e) (record { answer = refl; pile_is = refl; work_is = w })
 
       -- the slots are exchanged
-      pub ends_slots : {a b : ℕ} → TwoSlots first second (length pile) a b → {r : Step} {pile' work' : List ℤ} → Exchanged (slots_call pile a b) pile work r pile' work' →
+      pub ends_slots : {a b : ℕ} → TwoSlots first second (length pile) a b → {r : (Result ⊤ Refusal)} {pile' work' : List ℤ} → Exchanged (slots_call pile a b) pile work r pile' work' →
           Exchanged (exchange_call pile first second (length work)) pile work r pile' work'
       ends_slots p x = rw (slots_asked (length work) h p) x

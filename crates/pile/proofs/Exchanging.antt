@@ -1,4 +1,5 @@
 -- How an exchange of two slots ends. Assumes nothing.
+use Rattle.std.specs.Prelude.{Err, Ok, Result, ⊤}
 use mathlib.Core.Path.{◌≡◌, refl, sym, ◌∙◌, subst}
 use mathlib.Core.Bool.{Bool, true, false, ◌||◌}
 use mathlib.Core.List.{List}
@@ -7,9 +8,6 @@ use native.Mathlib.Omega.{arith}
 use lib.IntN.{ℤ}
 use Rattle.rules.specs.declared.Refusal.{Refusal}
 use Rattle.rules.specs.declared.Refusal.TheVariants.{OverCount, Unsound}
-use Rattle.rules.specs.declared.Step.{Step}
-use Rattle.rules.specs.declared.Step.TheVariants.{Done, Refused}
-use Rattle.rules.specs.declared.Written.TheVariants.{Refused as NotWritten}
 use Rattle.rules.specs.Limits.{result_size, work_size}
 use Rattle.rules.specs.Buffers.{part, put, over, zeros}
 use Rattle.rules.specs.Refusals.{given, refused, in_form, number_of, lowest}
@@ -27,7 +25,7 @@ use Rattle.pile.proofs.Late.{late_both}
 
 -- a working buffer that was written and cleared, behind a refusal above 2
 late_clear : (x : Refusal) → 3 ≤ number_of x → {work now work' : List ℤ} → Only 0 work_size work now → work' ≡ over (zeros work_size) now → work' ≡ work_after (refused (number_of x)) work
-late_clear x h {work} {now} {work'} o e = (call_refused {v = refused (number_of x)} {x = x} {result = work} {r = NotWritten x} refl h o (refl, e)).work_is
+late_clear x h {work} {now} {work'} o e = (call_refused {v = refused (number_of x)} {x = x} {result = work} {r = Err x} refl h o (refl, e)).work_is
 
 -- and behind what is given
 pub given_clear : {work now work' : List ℤ} → Only 0 work_size work now → work' ≡ over (zeros work_size) now → work' ≡ over (zeros work_size) work
@@ -47,15 +45,15 @@ module _ (pile : List ℤ) (a b : ℕ) where
   t = lent_of b (b + result_size) pile
 
   -- 1: nothing is touched
-  ends_over : (work : List ℤ) → (over_record s || over_record t) ≡ true → Exchanged (slots_call pile a b) pile work (Refused OverCount) pile work
+  ends_over : (work : List ℤ) → (over_record s || over_record t) ≡ true → Exchanged (slots_call pile a b) pile work (Err OverCount) pile work
   unfolding slots_call lowest number_of work_after
   ends_over work e = rw (← slot_lent a pile, ← slot_lent b pile, e) (record { answer = refl; pile_is = refl; work_is = refl })
 
-  pub ends_over_first : (work : List ℤ) {o : Bool} → o ≡ over_record s → o ≡ true → Exchanged (slots_call pile a b) pile work (Refused OverCount) pile work
+  pub ends_over_first : (work : List ℤ) {o : Bool} → o ≡ over_record s → o ≡ true → Exchanged (slots_call pile a b) pile work (Err OverCount) pile work
   ends_over_first work e f = ends_over work (over_first s t e f)
 
   pub ends_over_second : (work : List ℤ) {o q : Bool} → o ≡ over_record s → o ≡ false → q ≡ over_record t → q ≡ true →
-      Exchanged (slots_call pile a b) pile work (Refused OverCount) pile work
+      Exchanged (slots_call pile a b) pile work (Err OverCount) pile work
   ends_over_second work e f g k = ends_over work (over_second s t e f g k)
 
   module _ (n : NoneOver s t) where
@@ -64,8 +62,8 @@ module _ (pile : List ℤ) (a b : ℕ) where
     goes_on = rw (← slot_lent a pile, ← slot_lent b pile, n.is)
 
     -- one of the two calls is refused: the pile stays
-    pub ends_refused : {work now work' : List ℤ} {step : Step} {why : Refusal} → BothMade s t work now step → step ≡ Refused why → work' ≡ over (zeros work_size) now →
-        Exchanged (slots_call pile a b) pile work (Refused why) pile work'
+    pub ends_refused : {work now work' : List ℤ} {step : (Result ⊤ Refusal)} {why : Refusal} → BothMade s t work now step → step ≡ Err why → work' ≡ over (zeros work_size) now →
+        Exchanged (slots_call pile a b) pile work (Err why) pile work'
     ends_refused {work} {why = why} m f w =
         let is : both_of s t ≡ refused (number_of why) = sym m.says ∙ rw f in
         rw (goes_on, is) (record {
@@ -75,9 +73,9 @@ module _ (pile : List ℤ) (a b : ℕ) where
         })
 
     -- both are made, and stored
-    pub ends_made : {work now work' pile' : List ℤ} {step : Step} → BothMade s t work now step → step ≡ Done →
+    pub ends_made : {work now work' pile' : List ℤ} {step : (Result ⊤ Refusal)} → BothMade s t work now step → step ≡ Ok tt →
         pile' ≡ put b (encode (layout_at target now)) (put a (encode (layout_at sixth now)) pile) → work' ≡ over (zeros work_size) now →
-        Exchanged (slots_call pile a b) pile work Done pile' work'
+        Exchanged (slots_call pile a b) pile work (Ok tt) pile' work'
     unfolding work_after
     ends_made {now = now} m f q w =
         let is : both_of s t ≡ given (record { united = layout_at sixth now; common = layout_at target now }) = sym m.says ∙ rw f in

@@ -1,8 +1,9 @@
 -- `exchange_all`: the exchanges that are made so far, and the working buffer meanwhile. Assumes nothing.
+use Rattle.std.specs.Prelude.{Err, Ok, Result, ⊤}
 use mathlib.Core.Path.{◌≡◌, refl, sym, ap, ◌∙◌}
 use mathlib.Core.Bool.{Bool, true, false, ◌||◌}
-use mathlib.Core.List.{List, ◌∷◌}
-use Prim.Native.Nat.{ℕ, suc, ◌+◌, ◌%◌, ◌^◌, ◌<◌, ◌≤◌}
+use mathlib.Core.List.{List, [], ◌∷◌}
+use Prim.Native.Nat.{ℕ, zero, suc, ◌+◌, ◌*◌, ◌/◌, ◌%◌, ◌^◌, ◌<◌, ◌≤◌}
 use native.Mathlib.Nat.{zero-add}
 use native.Mathlib.Numerals.{add-one}
 use native.Mathlib.Omega.{arith}
@@ -12,11 +13,9 @@ use lib.IntN.{ℤ, pos}
 use lib.ListN.{length, get_or, drop, drop_of_length-le}
 use lib.Signed.{mag}
 use lib.Seq.{drop-cons}
-use Rattle.rules.specs.declared.Number.TheVariants.{Is, Refused as NoNumber}
+use Rattle.std.specs.Simd.{first_chunks}
 use Rattle.rules.specs.declared.Refusal.{Refusal}
 use Rattle.rules.specs.declared.Refusal.TheVariants.{ShortBuffer, WrongArgument}
-use Rattle.rules.specs.declared.Step.{Step}
-use Rattle.rules.specs.declared.Step.TheVariants.{Done, Refused}
 use Rattle.rules.specs.Limits.{work_size}
 use Rattle.rules.specs.Lists.{if}
 use Rattle.rules.specs.Buffers.{over, zeros}
@@ -68,42 +67,43 @@ two_there pairs at h =
     drop-cons pairs at (pos 0) (omega arith) ∙ ap (λ (n : ℕ). get_or pairs at (pos 0) ∷ drop n pairs) (sym (add-one at))
     ∙ ap (λ (l : List ℤ). get_or pairs at (pos 0) ∷ l) (drop-cons pairs (at + 1) (pos 0) h ∙ ap (λ (n : ℕ). get_or pairs (at + 1) (pos 0) ∷ drop n pairs) e)
 
--- so many are made, up to a place of the list
-pub record Going (pile pairs work : List ℤ) (made at : ℕ) (pile' work' : List ℤ) : Type 0 where
+-- the pairs that a list is cut into
+cut_at : (n k : ℕ) (s : List ℤ) → k < n → n * 2 ≤ length s → get_or (first_chunks 2 n s) k [] ≡ get_or s (k * 2) (pos 0) ∷ get_or s (k * 2 + 1) (pos 0) ∷ []
+cut_at zero k s h l = absurd (omega arith)
+cut_at (suc n) k [] h l = absurd (omega arith)
+cut_at (suc n) k (a ∷ []) h l = absurd (omega arith)
+cut_at (suc n) zero (a ∷ b ∷ s) h l = refl
+cut_at (suc n) (suc k) (a ∷ b ∷ s) h l =
+    let second : suc k * 2 + 1 ≡ suc (suc (k * 2 + 1)) = omega arith in
+    let first : suc k * 2 ≡ suc (suc (k * 2)) = omega arith in
+    rw (second, first) (cut_at n k s (omega arith) (omega arith))
+
+-- so many are made, up to a pair of the list
+pub record Going (pile pairs work : List ℤ) (places : List (List ℤ)) (made k : ℕ) (pile' work' : List ℤ) : Type 0 where
   pub long : work_size ≤ length work
   pub even : length pairs % 2 ≡ 0
-  pub half : at % 2 ≡ 0
-  pub upto : at ≤ length pairs
-  pub few : made ≤ at
-  pub rest : exchanges_from (record { made = made; pile = pile' }) (drop at pairs) ≡ exchanges_from (record { made = 0; pile = pile }) pairs
+  pub half : length places ≡ length pairs / 2
+  pub cut : places ≡ first_chunks 2 (length pairs / 2) pairs
+  pub upto : k ≤ length places
+  pub few : made ≤ k
+  pub rest : exchanges_from (record { made = made; pile = pile' }) (drop (k * 2) pairs) ≡ exchanges_from (record { made = 0; pile = pile }) pairs
   pub size : length pile' ≡ length pile
   pub only : Only 0 work_size work work'
 
--- none is yet
-pub going_start : (pile : List ℤ) {pairs work : List ℤ} → work_size ≤ length work → (length pairs % 2 ≡ 1 → ⊥) → Going pile pairs work 0 0 pile work
-going_start pile {pairs} {work} h k = record {
-  long = h;
-  even = omega arith;
-  half = refl;
-  upto = omega arith;
-  few = omega arith;
-  rest = refl;
-  size = refl;
-  only = only_same 0 work_size work;
-}
-
-module _ {pile pairs work : List ℤ} {made at : ℕ} {pile' work' : List ℤ} (g : Going pile pairs work made at pile' work') (h : at < length pairs) where
+module _ {pile pairs work : List ℤ} {places : List (List ℤ)} {made k : ℕ} {pile' work' : List ℤ} (g : Going pile pairs work places made k pile' work') (h : k < length places) where
   abbrev first : ℤ
-  first = get_or pairs at (pos 0)
+  first = get_or (get_or places k []) 0 (pos 0)
 
   abbrev second : ℤ
-  second = get_or pairs (at + 1) (pos 0)
+  second = get_or (get_or places k []) 1 (pos 0)
 
-  -- a pair has its second number
-  pub second_there : at + 1 < length pairs
-  second_there = omega (arith, g.even, g.half)
+  -- the pair and those behind it
+  pair_there : drop (k * 2) pairs ≡ first ∷ second ∷ drop (k * 2 + 2) pairs
+  pair_there =
+      let is : get_or places k [] ≡ get_or pairs (k * 2) (pos 0) ∷ get_or pairs (k * 2 + 1) (pos 0) ∷ [] = rw g.cut (cut_at (length pairs / 2) k pairs (omega (arith, g.half)) (omega arith)) in
+      rw is (two_there pairs (k * 2) (omega (arith, g.half, g.even)))
 
-  module _ (first_low : mag first < 2 ^ 31) (second_low : mag second < 2 ^ 31) {r : Step} {pile'' work'' : List ℤ}
+  module _ (first_low : mag first < 2 ^ 31) (second_low : mag second < 2 ^ 31) {r : (Result ⊤ Refusal)} {pile'' work'' : List ℤ}
       (same : length pile'' ≡ length pile') (x : Exchanged (exchange_call pile' (held first) (held second) (length work')) pile' work' r pile'' work'') where
     -- as it is asked of a working buffer of full size
     abbrev v : Verdict (List ℤ)
@@ -120,17 +120,20 @@ module _ {pile pairs work : List ℤ} {made at : ℕ} {pile' work' : List ℤ} (
 
     -- the rest of the list, behind this pair
     next_rest : {e : Exchanges} → e ≡ one_more (record { made = made; pile = pile' }) v →
-        exchanges_from e (drop (at + 2) pairs) ≡ exchanges_from (record { made = 0; pile = pile }) pairs
+        exchanges_from e (drop ((k + 1) * 2) pairs) ≡ exchanges_from (record { made = 0; pile = pile }) pairs
     unfolding exchanges_from
-    next_rest f = ap (λ (e : Exchanges). exchanges_from e (drop (at + 2) pairs)) f ∙ (rw (two_there pairs at second_there) at g.rest)
+    next_rest f =
+        let behind : (k + 1) * 2 ≡ k * 2 + 2 = omega arith in
+        rw behind (ap (λ (e : Exchanges). exchanges_from e (drop (k * 2 + 2) pairs)) f ∙ (rw pair_there at g.rest))
 
     -- one more was made
-    pub turn_made : r ≡ Done → Going pile pairs work (made + 1) (at + 2) pile'' work''
+    pub turn_made : r ≡ Ok tt → Going pile pairs work places (made + 1) (k + 1) pile'' work''
     turn_made e = record {
       long = g.long;
       even = g.even;
-      half = omega (arith, g.half);
-      upto = omega (arith, second_there);
+      half = g.half;
+      cut = g.cut;
+      upto = omega arith;
       few = omega (arith, g.few);
       rest = next_rest (rw (made_given v pile' (rw e at asked.answer) asked.pile_is, add-one));
       size = same ∙ g.size;
@@ -138,12 +141,13 @@ module _ {pile pairs work : List ℤ} {made at : ℕ} {pile' work' : List ℤ} (
     }
 
     -- it was refused
-    pub turn_refused : {why : Refusal} → r ≡ Refused why → Going pile pairs work made (at + 2) pile'' work''
+    pub turn_refused : {why : Refusal} → r ≡ Err why → Going pile pairs work places made (k + 1) pile'' work''
     turn_refused e = record {
       long = g.long;
       even = g.even;
-      half = omega (arith, g.half);
-      upto = omega (arith, second_there);
+      half = g.half;
+      cut = g.cut;
+      upto = omega arith;
       few = omega (arith, g.few);
       rest = next_rest (refused_stays v pile' (rw e at asked.answer) asked.pile_is);
       size = same ∙ g.size;
@@ -154,20 +158,20 @@ module _ {pile pairs work : List ℤ} {made at : ℕ} {pile' work' : List ℤ} (
 
 module _ (pile pairs work : List ℤ) where
   -- 2: nothing is touched
-  pub all_short : length work < work_size → AllExchanged (exchange_all_call pile pairs (length work)) pile work (NoNumber ShortBuffer) pile work
+  pub all_short : length work < work_size → AllExchanged (exchange_all_call pile pairs (length work)) pile work (Err ShortBuffer) pile work
   unfolding exchange_all_call lowest number_of work_after
   all_short h = rw (lt-ltb (length work) work_size h) (record { answer = refl; pile_is = refl; work_is = refl })
 
   -- 5: an odd count of numbers
   pub all_odd : {work' : List ℤ} → work_size ≤ length work → length pairs % 2 ≡ 1 → work' ≡ over (zeros work_size) work →
-      AllExchanged (exchange_all_call pile pairs (length work)) pile work (NoNumber WrongArgument) pile work'
+      AllExchanged (exchange_all_call pile pairs (length work)) pile work (Err WrongArgument) pile work'
   unfolding exchange_all_call lowest number_of work_after
   all_odd h e w = rw (le-ltb (length work) work_size h, eq-eqb (length pairs % 2) 1 e) (record { answer = refl; pile_is = refl; work_is = w })
 
   -- all pairs are passed
-  pub all_passed : {made at : ℕ} {pile' now work' : List ℤ} → Going pile pairs work made at pile' now → length pairs ≤ at → work' ≡ over (zeros work_size) now →
-      AllExchanged (exchange_all_call pile pairs (length work)) pile work (Is made) pile' work'
+  pub all_passed : {places : List (List ℤ)} {made k : ℕ} {pile' now work' : List ℤ} → Going pile pairs work places made k pile' now → length places ≤ k → work' ≡ over (zeros work_size) now →
+      AllExchanged (exchange_all_call pile pairs (length work)) pile work (Ok made) pile' work'
   unfolding exchange_all_call lowest work_after exchanges_from
-  all_passed {made} {at} {pile'} g h w =
-      let is : record { made = made; pile = pile' } ≡ exchanges_from (record { made = 0; pile = pile }) pairs = rw (drop_of_length-le pairs {i = at} h) at g.rest in
+  all_passed {made = made} {k = k} {pile' = pile'} g h w =
+      let is : record { made = made; pile = pile' } ≡ exchanges_from (record { made = 0; pile = pile }) pairs = rw (drop_of_length-le pairs {i = k * 2} (omega (arith, g.half, g.even))) at g.rest in
       rw (le-ltb (length work) work_size g.long, ne_eqb (length pairs % 2) 1 (λ e. omega (arith, g.even)), ← is) (record { answer = refl; pile_is = refl; work_is = given_clear g.only w })

@@ -1,18 +1,16 @@
 -- Both layouts of an exchange made of two records: the ways out of `make_both`. Assumes nothing.
+use Rattle.std.specs.Prelude.{Err, Ok, Result, ⊤}
 use mathlib.Core.Path.{◌≡◌, refl, sym, ◌∙◌}
-use mathlib.Core.Bool.{Bool, true, false, not, ◌&&◌}
+use mathlib.Core.Bool.{Bool, true, false, ◌&&◌}
 use mathlib.Core.List.{List}
 use mathlib.Core.Logic.{inr}
 use Prim.Native.Nat.{ℕ, ◌≤◌}
 use native.Mathlib.Omega.{arith}
-use borrow.Author.Tests.{not-true, not-false}
 use lib.IntN.{ℤ}
 use lib.ListN.{length}
 use Rattle.rules.specs.declared.Head.{Head}
 use Rattle.rules.specs.declared.Refusal.{Refusal}
 use Rattle.rules.specs.declared.Refusal.TheVariants.{Unsound, Unordered}
-use Rattle.rules.specs.declared.Step.{Step}
-use Rattle.rules.specs.declared.Step.TheVariants.{Done, Refused}
 use Rattle.rules.specs.Limits.{work_size}
 use Rattle.rules.specs.RowsInOrder.{increasing}
 use Rattle.rules.specs.Refusals.{given, refused, number_of, lowest}
@@ -56,14 +54,14 @@ module _ (s t : List ℤ) where
       unordered_both q = rw (p, e, q)
 
       -- what a step says of the intersection
-      both_said_lem : (ordered s && ordered t) ≡ true → (step : Step) (work : List ℤ) → layout_at sixth work ≡ l →
+      both_said_lem : (ordered s && ordered t) ≡ true → (step : Result ⊤ Refusal) (work : List ℤ) → layout_at sixth work ≡ l →
           step_says step (layout_at target work) ≡ intersect (layout_in s) (layout_in t) → both_said step work ≡ both_of s t
       unfolding both_of lowest
-      both_said_lem q Done work d f = rw (p, e, q, ← f, d)
-      both_said_lem q (Refused why) work d f = rw (p, e, q, ← f)
+      both_said_lem q (Ok tt) work d f = rw (p, e, q, ← f, d)
+      both_said_lem q (Err why) work d f = rw (p, e, q, ← f)
 
 -- a refusal leaves nothing to show but that it is the right one
-refused_made : {s t work now : List ℤ} {why : Refusal} → both_of s t ≡ refused (number_of why) → Only 0 work_size work now → BothMade s t work now (Refused why)
+refused_made : {s t work now : List ℤ} {why : Refusal} → both_of s t ≡ refused (number_of why) → Only 0 work_size work now → BothMade s t work now (Err why)
 refused_made e o = record {
   says = sym e;
   united_holds = λ f. absurd (never_done f);
@@ -73,7 +71,7 @@ refused_made e o = record {
 
 -- ---- 3
 
-pub made_unsound : {s t : List ℤ} (work : List ℤ) → (sound s && sound t) ≡ false → BothMade s t work work (Refused Unsound)
+pub made_unsound : {s t : List ℤ} (work : List ℤ) → (sound s && sound t) ≡ false → BothMade s t work work (Err Unsound)
 made_unsound {s} {t} work e = refused_made (unsound_both s t e) (only_same 0 work_size work)
 
 -- ---- both records are loaded
@@ -107,17 +105,17 @@ pub record Halfway (s t work now : List ℤ) : Type 0 where
   pub union_holds : Holds sixth now
   pub only : Only 0 work_size work now
 
-module _ {x y : Head} {s t : List ℤ} (a : SoundRecord x s) (b : SoundRecord y t) {work now next : List ℤ} (long : work_size ≤ length work) (p : PairLoaded s t now) (o : Only 0 work_size work now) {step : Step} (m : United now next step) where
+module _ {x y : Head} {s t : List ℤ} (a : SoundRecord x s) (b : SoundRecord y t) {work now next : List ℤ} (long : work_size ≤ length work) (p : PairLoaded s t now) (o : Only 0 work_size work now) {step : (Result ⊤ Refusal)} (m : United now next step) where
   both_are : (sound s && sound t) ≡ true
   both_are = rw (a.judged, b.judged)
 
   said : Says (union (layout_in s) (layout_in t)) sixth next step
   said = rw (p.first, p.second) at m.says
 
-  pub union_out : {why : Refusal} → step ≡ Refused why → BothMade s t work next (Refused why)
+  pub union_out : {why : Refusal} → step ≡ Err why → BothMade s t work next (Err why)
   union_out {why} e = refused_made (union_refused s t both_are (sym (rw e at said.is))) (only_then o m.only)
 
-  pub halfway : step ≡ Done → Halfway s t work next
+  pub halfway : step ≡ Ok tt → Halfway s t work next
   halfway e = record {
     both_sound = both_are;
     long = long;
@@ -130,19 +128,19 @@ module _ {x y : Head} {s t : List ℤ} (a : SoundRecord x s) (b : SoundRecord y 
 -- ---- 4, and the intersection
 
 module _ {s t work now : List ℤ} (h : Halfway s t work now) where
-  pub first_unordered : {o : Bool} → o ≡ ordered s → not o ≡ true → BothMade s t work now (Refused Unordered)
-  first_unordered {o} e f = refused_made (unordered_both s t h.both_sound h.union_is (rw (sym e ∙ not-true o f))) h.only
+  pub first_unordered : {o : Bool} → o ≡ ordered s → o ≡ false → BothMade s t work now (Err Unordered)
+  first_unordered {o} e f = refused_made (unordered_both s t h.both_sound h.union_is (rw (sym e ∙ f))) h.only
 
-  module _ {o : Bool} (e : o ≡ ordered s) (f : not o ≡ false) where
+  module _ {o : Bool} (e : o ≡ ordered s) (f : o ≡ true) where
     first_ordered : ordered s ≡ true
-    first_ordered = sym e ∙ not-false o f
+    first_ordered = sym e ∙ f
 
-    pub second_unordered : {q : Bool} → q ≡ ordered t → not q ≡ true → BothMade s t work now (Refused Unordered)
-    second_unordered {q} d g = refused_made (unordered_both s t h.both_sound h.union_is (rw (first_ordered, sym d ∙ not-true q g))) h.only
+    pub second_unordered : {q : Bool} → q ≡ ordered t → q ≡ false → BothMade s t work now (Err Unordered)
+    second_unordered {q} d g = refused_made (unordered_both s t h.both_sound h.union_is (rw (first_ordered, sym d ∙ g))) h.only
 
-    module _ {q : Bool} (d : q ≡ ordered t) (g : not q ≡ false) where
+    module _ {q : Bool} (d : q ≡ ordered t) (g : q ≡ true) where
       second_ordered : ordered t ≡ true
-      second_ordered = sym d ∙ not-false q g
+      second_ordered = sym d ∙ g
 
       now_long : work_size ≤ length now
       now_long = omega (arith, h.only.size, h.long)
@@ -162,7 +160,7 @@ module _ {s t work now : List ℤ} (h : Halfway s t work now) where
         right_ordered = rw (right_lent now now_long h.pair.holds, h.pair.second) (rows_increase_lem t second_ordered);
       }
 
-      pub both_made : {u : List ℤ} {step : Step} → Combined intersect (lent_of 0 window_size now) u step → BothMade s t work (back_in 0 window_size now u) step
+      pub both_made : {u : List ℤ} {step : (Result ⊤ Refusal)} → Combined intersect (lent_of 0 window_size now) u step → BothMade s t work (back_in 0 window_size now u) step
       both_made {u} {step} m =
           let o : Only 0 window_size now (back_in 0 window_size now u) = came_only now now_long h.pair.holds m in
           let said : Says (intersect (layout_in s) (layout_in t)) target (back_in 0 window_size now u) step = rw (h.pair.first, h.pair.second) at (came_says now now_long h.pair.holds m) in record {

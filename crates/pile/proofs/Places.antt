@@ -1,4 +1,5 @@
 -- The ways out of `two_slots`. Assumes nothing.
+use Rattle.std.specs.Prelude.{None, Option, Some}
 use mathlib.Core.Path.{◌≡◌, refl, sym, ◌∙◌, subst}
 use mathlib.Core.Bool.{Bool, true, false, ◌&&◌}
 use Prim.Native.Nat.{ℕ, ◌+◌, ◌*◌, ◌/◌, ◌<◌, ◌≤◌}
@@ -11,14 +12,10 @@ use mir.Val.{SFits}
 use mir.ValLaws.{to_z-of_z}
 use Rattle.rules.specs.Limits.{result_size}
 use Rattle.rules.specs.Record.{natural}
-use Rattle.cells.specs.declared.Sign.{Sign}
-use Rattle.cells.specs.declared.Sign.TheVariants.{Natural, Negative}
 use Rattle.cells.specs.View.{sign_of}
 use Rattle.cells.proofs.Signed.{held}
 use Rattle.records.proofs.Sections.{sign_natural, sign_negative}
 use Rattle.rules.specs.Pile.{are_two_places}
-use Rattle.pile.specs.declared.Slots.{Slots}
-use Rattle.pile.specs.declared.Slots.TheVariants.{Two, Wrong}
 use Rattle.pile.specs.Slots.{TwoSlots, SlotsAre}
 
 -- a slot below the count lies in the pile
@@ -33,11 +30,11 @@ never_both false b = refl
 
 module _ (first second : ℤ) (size : ℕ) where
   -- the first number is negative
-  pub first_negative : {g : Sign} → g ≡ sign_of first → g ≡ Negative → are_two_places first second (size / result_size) ≡ false
+  pub first_negative : {g : (Option ℕ)} → g ≡ sign_of first → g ≡ None → are_two_places first second (size / result_size) ≡ false
   first_negative e f = rw (sign_negative first (sym e ∙ f))
 
   -- the second is
-  pub second_negative : {g h : Sign} {i : ℕ} → g ≡ sign_of first → g ≡ Natural i → h ≡ sign_of second → h ≡ Negative → are_two_places first second (size / result_size) ≡ false
+  pub second_negative : {g h : (Option ℕ)} {i : ℕ} → g ≡ sign_of first → g ≡ Some i → h ≡ sign_of second → h ≡ None → are_two_places first second (size / result_size) ≡ false
   second_negative {i = i} e f d k = rw (sign_natural first (sym e ∙ f), sign_negative second (sym d ∙ k)) (never_both (ltb i (size / result_size)) _)
 
 -- neither is
@@ -45,7 +42,7 @@ pub record Naturals (first second : ℤ) (i j : ℕ) : Type 0 where
   pub first_is : first ≡ pos i
   pub second_is : second ≡ pos j
 
-pub both_natural : (first second : ℤ) {g h : Sign} {i j : ℕ} → g ≡ sign_of first → g ≡ Natural i → h ≡ sign_of second → h ≡ Natural j → Naturals first second i j
+pub both_natural : (first second : ℤ) {g h : (Option ℕ)} {i j : ℕ} → g ≡ sign_of first → g ≡ Some i → h ≡ sign_of second → h ≡ Some j → Naturals first second i j
 both_natural first second e f d k = record { first_is = sign_natural first (sym e ∙ f); second_is = sign_natural second (sym d ∙ k) }
 
 module _ {first second : ℤ} {i j : ℕ} (n : Naturals first second i j) (size : ℕ) where
@@ -77,14 +74,14 @@ module _ {first second : ℤ} {i j : ℕ} (n : Naturals first second i j) (size 
 -- ---- what was found
 
 -- the numbers that were handed over are those that were judged
-pub slots_handed : (first second : ℤ) → SFits w32 first → SFits w32 second → (size : ℕ) (r : Slots) → SlotsAre (held first) (held second) size r → SlotsAre first second size r
+pub slots_handed : (first second : ℤ) → SFits w32 first → SFits w32 second → (size : ℕ) (r : Option (ℕ × ℕ)) → SlotsAre (held first) (held second) size r → SlotsAre first second size r
 slots_handed first second g h size r p = rw (to_z-of_z w32 first g, to_z-of_z w32 second h) at p
 
 -- by the case that was met
 
-module _ (first second : ℤ) (size : ℕ) {r : Slots} (p : SlotsAre first second size r) where
-  pub slots_told : {a b : ℕ} → r ≡ Two a b → TwoSlots first second size a b
+module _ (first second : ℤ) (size : ℕ) {r : (Option (ℕ × ℕ))} (p : SlotsAre first second size r) where
+  pub slots_told : {a b : ℕ} → r ≡ Some (a, b) → TwoSlots first second size a b
   slots_told e = subst (SlotsAre first second size) e p
 
-  pub wrong_told : r ≡ Wrong → are_two_places first second (size / result_size) ≡ false
+  pub wrong_told : r ≡ None → are_two_places first second (size / result_size) ≡ false
   wrong_told e = subst (SlotsAre first second size) e p

@@ -1,4 +1,5 @@
 -- Two layouts at the front of the working buffer, lent to a step as its window; and their union moved to the sixth part. Assumes nothing.
+use Rattle.std.specs.Prelude.{Err, Ok, Result, ⊤}
 use mathlib.Core.Path.{◌≡◌, sym, ap, ◌∙◌}
 use mathlib.Core.List.{List}
 use mathlib.Core.Logic.{inl}
@@ -7,8 +8,6 @@ use native.Mathlib.Omega.{arith}
 use lib.IntN.{ℤ}
 use lib.ListN.{length}
 use Rattle.rules.specs.declared.Refusal.{Refusal}
-use Rattle.rules.specs.declared.Step.{Step}
-use Rattle.rules.specs.declared.Step.TheVariants.{Done, Refused}
 use Rattle.rules.specs.Limits.{work_size}
 use Rattle.rules.specs.Buffers.{part, put}
 use Rattle.rules.specs.Refusals.{Verdict, given}
@@ -53,7 +52,7 @@ module _ (work : List ℤ) (long : work_size ≤ length work) where
 
     -- ---- it comes back from a step, by any rule
 
-    module _ {rule : Layout → Layout → Verdict Layout} {u : List ℤ} {step : Step} (m : Combined rule (lent_of 0 window_size work) u step) where
+    module _ {rule : Layout → Layout → Verdict Layout} {u : List ℤ} {step : (Result ⊤ Refusal)} (m : Combined rule (lent_of 0 window_size work) u step) where
       pub came_says : Says (rule (layout_at left work) (layout_at right work)) target (back_in 0 window_size work u) step
       came_says = window_says work long u m.only.size (rw (left_lent, right_lent) at m.says)
 
@@ -95,7 +94,7 @@ module _ (s : List ℤ) {t : List ℤ} (long : work_size ≤ length s) (is : t �
   aside_same : Moved target sixth s t
   aside_same = record { numbers = rw is (ap (λ (n : ℕ). part sixth n (put sixth (part target part_size s) s)) (sym length_target) ∙ part_put_all sixth (part target part_size s) s (omega arith)) }
 
-  pub aside_says : {v : Verdict Layout} {step : Step} → step ≡ Done → Says v target s step → Says v sixth t Done
+  pub aside_says : {v : Verdict Layout} {step : (Result ⊤ Refusal)} → step ≡ Ok tt → Says v target s step → Says v sixth t (Ok tt)
   aside_says e d = record {
     is = ap given (layout_moved aside_same (d.holds e)) ∙ rw e at d.is;
     holds = λ _. holds_moved aside_same (d.holds e) (omega (arith, aside_only.size));
@@ -103,7 +102,7 @@ module _ (s : List ℤ) {t : List ℤ} (long : work_size ≤ length s) (is : t �
 
 -- ---- `unite`
 
-module _ (work : List ℤ) (long : work_size ≤ length work) (w : Window work) {u : List ℤ} {step : Step} (m : Combined union (lent_of 0 window_size work) u step) where
+module _ (work : List ℤ) (long : work_size ≤ length work) (w : Window work) {u : List ℤ} {step : (Result ⊤ Refusal)} (m : Combined union (lent_of 0 window_size work) u step) where
   abbrev came : List ℤ
   came = back_in 0 window_size work u
 
@@ -114,7 +113,7 @@ module _ (work : List ℤ) (long : work_size ≤ length work) (w : Window work) 
   came_wide = only_wider (came_only work long w m) 0 work_size (omega arith) (omega arith)
 
   -- the union was made, and moved
-  pub united_done : {t : List ℤ} → step ≡ Done → t ≡ put sixth (part target part_size came) came → United work t Done
+  pub united_done : {t : List ℤ} → step ≡ Ok tt → t ≡ put sixth (part target part_size came) came → United work t (Ok tt)
   united_done {t} e is =
       let o : Only sixth work_size came t = aside_only came came_long is in
       let k : Window came = kept_window work long w m in record {
@@ -130,7 +129,7 @@ module _ (work : List ℤ) (long : work_size ≤ length work) (w : Window work) 
       }
 
   -- it was refused
-  pub united_refused : {why : Refusal} → step ≡ Refused why → United work came (Refused why)
+  pub united_refused : {why : Refusal} → step ≡ Err why → United work came (Err why)
   united_refused {why} e = record {
     says = says_refused why sixth came (refused_said (came_says work long w m) e);
     window = kept_window work long w m;

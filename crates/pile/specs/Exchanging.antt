@@ -1,7 +1,7 @@
 -- What is made of two records before the pile is written.
+use Rattle.std.specs.Prelude.{Err, Ok, Result, ⊤}
+use Rattle.rules.specs.declared.Refusal.{Refusal}
 use Rattle.std.specs.Prelude.{◌≡◌, not, ◌&&◌, ◌||◌, List, [], ◌∷◌, ℕ, ℤ}
-use Rattle.rules.specs.declared.Step.{Step}
-use Rattle.rules.specs.declared.Step.TheVariants.{Done, Refused}
 use Rattle.rules.specs.Limits.{result_size, work_size}
 use Rattle.rules.specs.Buffers.{part, put}
 use Rattle.rules.specs.Refusals.{Verdict, given, refused, in_form, number_of, ◌then◌, ◌when◌, lowest}
@@ -21,7 +21,7 @@ abbrev pub sixth : ℕ
 sixth = 9010
 
 -- the union of the two layouts at the front stands in the sixth part, and the two stay
-pub record United (s t : List ℤ) (r : Step) : Type 0 where
+pub record United (s t : List ℤ) (r : Result ⊤ Refusal) : Type 0 where
   pub says : Says (union (layout_at left s) (layout_at right s)) sixth t r
   pub window : Window t
   pub left_stays : layout_at left t ≡ layout_at left s
@@ -43,15 +43,15 @@ both_of s t =
     given (record { united = either; common = both })
 
 -- what is said of the sixth part and the target
-abbrev pub both_said : Step → List ℤ → Verdict Both
-both_said Done work = given (record { united = layout_at sixth work; common = layout_at target work })
-both_said (Refused why) work = refused (number_of why)
+abbrev pub both_said : Result ⊤ Refusal → List ℤ → Verdict Both
+both_said (Ok tt) work = given (record { united = layout_at sixth work; common = layout_at target work })
+both_said (Err why) work = refused (number_of why)
 
 -- both stand there, or one of the two is refused
-pub record BothMade (s t work work' : List ℤ) (r : Step) : Type 0 where
+pub record BothMade (s t work work' : List ℤ) (r : Result ⊤ Refusal) : Type 0 where
   pub says : both_said r work' ≡ both_of s t
-  pub united_holds : r ≡ Done → Holds sixth work'
-  pub common_holds : r ≡ Done → Holds target work'
+  pub united_holds : r ≡ Ok tt → Holds sixth work'
+  pub common_holds : r ≡ Ok tt → Holds target work'
   pub only : Only 0 work_size work work'
 
 -- ---- an exchange

@@ -1,10 +1,9 @@
 -- Where the slots of a pile begin.
+use Rattle.std.specs.Prelude.{None, Option, Some}
 use Rattle.std.specs.Prelude.{◌≡◌, true, false, ℕ, ◌+◌, ◌*◌, ◌/◌, ◌≤◌, ℤ}
 use Rattle.rules.specs.Limits.{result_size}
 use Rattle.rules.specs.Record.{natural}
 use Rattle.rules.specs.Pile.{are_two_places}
-use Rattle.pile.specs.declared.Slots.{Slots}
-use Rattle.pile.specs.declared.Slots.TheVariants.{Two, Wrong}
 
 -- the slots that begin at a and at b lie in a pile of so many numbers
 pub record SlotsIn (a b size : ℕ) : Type 0 where
@@ -18,6 +17,6 @@ pub record TwoSlots (first second : ℤ) (size a b : ℕ) : Type 0 where
   pub second_at : b ≡ natural second * result_size
   pub inside : SlotsIn a b size
 
-abbrev pub SlotsAre : ℤ → ℤ → ℕ → Slots → Type 0
-SlotsAre first second size (Two a b) = TwoSlots first second size a b
-SlotsAre first second size Wrong = are_two_places first second (size / result_size) ≡ false
+abbrev pub SlotsAre : ℤ → ℤ → ℕ → (Option (ℕ × ℕ)) → Type 0
+SlotsAre first second size (Some (a, b)) = TwoSlots first second size a b
+SlotsAre first second size None = are_two_places first second (size / result_size) ≡ false

@@ -11,77 +11,54 @@ ghost use Rattle.rules.specs.Pile.{exchange_call, exchange_all_call, Exchanged, 
 ghost use Rattle.pile.specs.Slots.{SlotsAre, SlotsIn};
 ghost use Rattle.pile.specs.Exchanging.{sixth, United, BothMade, slots_call};
 
-use cells::Sign;
-use records::Finding;
-use rules::{Number, Refusal, Step};
+use rules::Refusal;
 
 // The last part of the working buffer, behind the window of a step: the union waits there until the intersection is made too.
 const SIXTH: usize = parts::WINDOW;
 
-// Where two different slots of a pile begin; or they are not such places.
-#[derive(Clone, Copy)]
-enum Slots {
-    Two(usize, usize),
-    Wrong,
-}
-
 // The slots at two places of a pile of so many numbers.
-fn two_slots(first: i32, second: i32, size: usize) -> Slots
+fn two_slots(first: i32, second: i32, size: usize) -> Option<(usize, usize)>
     ensures { SlotsAre first second size result }
 {
-    let Sign::Natural(i) = cells::sign_of(first) else {
-        return Slots::Wrong;
-    };
-    let Sign::Natural(j) = cells::sign_of(second) else {
-        return Slots::Wrong;
-    };
+    let i = cells::sign_of(first)?;
+    let j = cells::sign_of(second)?;
     let count = size / parts::PART;
     if count <= i {
-        return Slots::Wrong;
+        return None;
     }
     if count <= j {
-        return Slots::Wrong;
+        return None;
     }
     if i == j {
-        return Slots::Wrong;
+        return None;
     }
-    Slots::Two(i * parts::PART, j * parts::PART)
+    Some((i * parts::PART, j * parts::PART))
 }
 
 // The union of the two layouts at the front of the working buffer is made and moved to the sixth part; the two stay.
-fn unite(work: &mut [i32]) -> Step
+fn unite(work: &mut [i32]) -> Result<(), Refusal>
     requires { Window work.old × (work_size ≤ length work.old) }
     ensures { United work.old work.new result }
 {
-    match combine::union_in(&mut work[0..parts::WINDOW], false) {
-        Step::Done => {
-            cells::move_part(work, parts::TARGET, SIXTH, parts::PART);
-            Step::Done
-        }
-        Step::Refused(why) => Step::Refused(why),
-    }
+    combine::union_in(&mut work[0..parts::WINDOW], false)?;
+    cells::move_part(work, parts::TARGET, SIXTH, parts::PART);
+    Ok(())
 }
 
 // The union of two records is made in the sixth part, their intersection in the target; or why one of the two is refused.
-fn make_both(left: &[i32], right: &[i32], work: &mut [i32]) -> Step
+fn make_both(left: &[i32], right: &[i32], work: &mut [i32]) -> Result<(), Refusal>
     requires { work_size ≤ length work.old }
     ensures { BothMade left.now right.now work.old work.new result }
 {
-    let Finding::Sound(first, left_ordered) = records::judged(left) else {
-        return Step::Refused(Refusal::Unsound);
-    };
-    let Finding::Sound(second, right_ordered) = records::judged(right) else {
-        return Step::Refused(Refusal::Unsound);
-    };
+    let (first, left_ordered) = records::judged(left).ok_or(Refusal::Unsound)?;
+    let (second, right_ordered) = records::judged(right).ok_or(Refusal::Unsound)?;
     parts::load_pair(left, first, right, second, &mut work[0..parts::WINDOW]);
-    if let Step::Refused(why) = unite(work) {
-        return Step::Refused(why);
-    }
+    unite(work)?;
     if !left_ordered {
-        return Step::Refused(Refusal::Unordered);
+        return Err(Refusal::Unordered);
     }
     if !right_ordered {
-        return Step::Refused(Refusal::Unordered);
+        return Err(Refusal::Unordered);
     }
     intersecting::intersect_in(&mut work[0..parts::WINDOW])
 }
@@ -107,69 +84,63 @@ fn store_both(work: &[i32], pile: &mut [i32], a: usize, b: usize)
 }
 
 // The records of the slots at a and at b are exchanged; a refused exchange leaves the pile as it is.
-fn exchange_slots(pile: &mut [i32], a: usize, b: usize, work: &mut [i32]) -> Step
+fn exchange_slots(pile: &mut [i32], a: usize, b: usize, work: &mut [i32]) -> Result<(), Refusal>
     requires { SlotsIn a b (length pile.old) × (work_size ≤ length work.old) }
     ensures { Exchanged (slots_call pile.old a b) pile.old work.old result pile.new work.new }
 {
     let a_end = a + parts::PART;
     let b_end = b + parts::PART;
     if records::over_record(&pile[a..a_end]) {
-        return Step::Refused(Refusal::OverCount);
+        return Err(Refusal::OverCount);
     }
     if records::over_record(&pile[b..b_end]) {
-        return Step::Refused(Refusal::OverCount);
+        return Err(Refusal::OverCount);
     }
     match make_both(&pile[a..a_end], &pile[b..b_end], work) {
-        Step::Done => {
+        Ok(()) => {
             store_both(work, pile, a, b);
             cells::clear(work, parts::WORK);
-            Step::Done
+            Ok(())
         }
-        Step::Refused(why) => {
+        Err(why) => {
             cells::clear(work, parts::WORK);
-            Step::Refused(why)
+            Err(why)
         }
     }
 }
 
 // The records at two different places of a pile are replaced by their union, at the first, and their intersection, at the second.
-pub fn exchange(pile: &mut [i32], first: i32, second: i32, work: &mut [i32]) -> Step
+pub fn exchange(pile: &mut [i32], first: i32, second: i32, work: &mut [i32]) -> Result<(), Refusal>
     ensures { Exchanged (exchange_call pile.old first second (length work.old)) pile.old work.old result pile.new work.new }
 {
     if work.len() < parts::WORK {
-        return Step::Refused(Refusal::ShortBuffer);
+        return Err(Refusal::ShortBuffer);
     }
-    let Slots::Two(a, b) = two_slots(first, second, pile.len()) else {
+    let Some((a, b)) = two_slots(first, second, pile.len()) else {
         cells::clear(work, parts::WORK);
-        return Step::Refused(Refusal::WrongArgument);
+        return Err(Refusal::WrongArgument);
     };
     exchange_slots(pile, a, b, work)
 }
 
 // The exchanges of a list of places are made one after the other, two numbers for each, a refused one not; answers how many were made.
-pub fn exchange_all(pile: &mut [i32], pairs: &[i32], work: &mut [i32]) -> Number
+pub fn exchange_all(pile: &mut [i32], pairs: &[i32], work: &mut [i32]) -> Result<usize, Refusal>
     ensures { AllExchanged (exchange_all_call pile.old pairs.now (length work.old)) pile.old work.old result pile.new work.new }
 {
     if work.len() < parts::WORK {
-        return Number::Refused(Refusal::ShortBuffer);
+        return Err(Refusal::ShortBuffer);
     }
-    if pairs.len() % 2 == 1 {
+    let (places, odd) = pairs.as_chunks::<2>();
+    if !odd.is_empty() {
         cells::clear(work, parts::WORK);
-        return Number::Refused(Refusal::WrongArgument);
+        return Err(Refusal::WrongArgument);
     }
     let mut made = 0;
-    let mut at = 0;
-    while at < pairs.len() {
-        match exchange(pile, pairs[at], pairs[at + 1], work) {
-            Step::Done => {
-                made += 1;
-                at += 2;
-            }
-            Step::Refused(_) => {
-                at += 2;
-            }
+    for [first, second] in places {
+        if let Ok(()) = exchange(pile, *first, *second, work) {
+            made += 1;
         }
     }
     cells::clear(work, parts::WORK);
-    Number::Is(made)
+    Ok(made)
 }

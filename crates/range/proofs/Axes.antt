@@ -135,8 +135,8 @@ module _ {h : Head} {s : List ℤ} (r : SoundRecord h s) (few : ℕ) where
   shape_shown = rw (layout_shown r) refl
 
   -- the source is not dense
-  pub is_not_dense : {kind : ℕ} → kind ≡ get_or (view s) 0 0 → 0 < kind → uncuttable few l ≡ true
-  is_not_dense e some = by_kind few l (ne_eqb l.kind 0 (λ z. omega (arith, kind_shown r)))
+  pub is_not_dense : {kind : ℕ} → kind ≡ get_or (view s) 0 0 → (kind ≡ 0 → ⊥) → uncuttable few l ≡ true
+  is_not_dense e some = by_kind few l (ne_eqb l.kind 0 (λ z. some (omega (arith, kind_shown r))))
 
   -- it has no axis
   pub no_axis : h.rank ≡ 0 → uncuttable few l ≡ true
@@ -155,7 +155,7 @@ module _ {h : Head} {s : List ℤ} (r : SoundRecord h s) (few : ℕ) where
     two_wide e = by_extents few l (lt-ltb 1 (length (wide_axes l)) (omega (arith, wide.count_is)))
 
     -- it can be cut
-    pub cut_along : {kind : ℕ} → kind ≡ get_or (view s) 0 0 → kind ≤ 0 → (h.rank ≡ 0 → ⊥) → few ≤ h.rank → count ≤ 1 → CutAlong few l first
+    pub cut_along : {kind : ℕ} → kind ≡ get_or (view s) 0 0 → kind ≡ 0 → (h.rank ≡ 0 → ⊥) → few ≤ h.rank → count ≤ 1 → CutAlong few l first
     cut_along e k some least one = record {
       can_cut =
           rw (

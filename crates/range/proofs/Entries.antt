@@ -1,11 +1,11 @@
 -- `in_range` and `cut_row`: one entry, held against the range, and what is left of it. Assumes nothing.
 use mathlib.Core.Path.{◌≡◌, refl, sym, ap, ◌∙◌}
-use mathlib.Core.Bool.{Bool, true, false, not}
+use mathlib.Core.Bool.{Bool, true, false, not, ◌&&◌}
 use mathlib.Core.List.{List}
 use Prim.Native.Nat.{ℕ, suc, ◌+◌, ◌-◌, ◌^◌, ◌<◌, ◌≤◌}
 use native.Mathlib.Omega.{arith}
-use borrow.Author.Tests.{not-true, not-false, lt-ltb, le-ltb, le-leb, lt-leb}
-use lib.Dec.{ltb}
+use borrow.Author.Tests.{not-true, lt-ltb, le-ltb}
+use lib.Dec.{leb, ltb}
 use lib.IntN.{ℤ, pos}
 use lib.ListN.{length, get_or, set, take, drop}
 use lib.Seq.{take-take, take-set-lt, set-append_left, length-take-le, get_or-take}
@@ -51,19 +51,11 @@ module _ {at r : ℕ} {cut : Cut} {s : List ℤ} (q : EntryAsked at r cut s) {b 
   pub out_of_shape : not b ≡ true → false ≡ in_cut cut (row_at 3 r s) entry
   out_of_shape e = rw (index_is, ← below, not-true b e)
 
-  module _ (inside : not b ≡ false) {x : ℕ} (read : x ≡ get_or (view s) (at + cut.axis) 0) where
-    component : get_or (row_at at r s) cut.axis 0 ≡ x
-    component = row_number at r cut.axis s q.axis_in ∙ sym read
-
-    -- it lies before the range
-    pub before_range : x < cut.start → false ≡ in_cut cut (row_at 3 r s) entry
-    before_range h = rw (index_is, ← below, not-false b inside, component, lt-leb cut.start x h)
-
-    -- it lies in it, or behind
-    pub told_range : cut.start ≤ x → ltb x cut.end ≡ in_cut cut (row_at 3 r s) entry
-    told_range h = rw (index_is, ← below, not-false b inside, component, le-leb cut.start x h)
-
-pub ruleset ranging = (out_of_shape, before_range, told_range)
+  -- it lies in it: the range decides
+  pub told_range : b ≡ true → {x : ℕ} → x ≡ get_or (view s) (at + cut.axis) 0 → leb cut.start x && ltb x cut.end ≡ in_cut cut (row_at 3 r s) entry
+  told_range inside {x} read =
+      let component : get_or (row_at at r s) cut.axis 0 ≡ x = row_number at r cut.axis s q.axis_in ∙ sym read in
+      rw (index_is, ← below, inside, component)
 
 -- ---- what is left of it
 

@@ -1,4 +1,5 @@
 -- `filter_into`: the target is loaded, and the entries of the range take the place of its dependencies. Assumes nothing.
+use Rattle.std.specs.Prelude.{Err, Ok}
 use mathlib.Core.Path.{◌≡◌, refl, sym, ap, ◌∙◌}
 use mathlib.Core.Bool.{Bool, true, false, not, ◌&&◌}
 use mathlib.Core.List.{List}
@@ -10,7 +11,6 @@ use lib.IntN.{ℤ}
 use lib.ListN.{length}
 use Rattle.rules.specs.declared.Head.{Head}
 use Rattle.rules.specs.declared.Refusal.TheVariants.{Unjoinable, MadeUnsound}
-use Rattle.rules.specs.declared.Step.TheVariants.{Done, Refused}
 use Rattle.rules.specs.RowsInOrder.{increasing}
 use Rattle.rules.specs.Refusals.{number_of}
 use Rattle.rules.specs.Layout.{Layout, width, with_deps}
@@ -31,10 +31,8 @@ use Rattle.records.proofs.Shown.{rank_shown, deps_low}
 use Rattle.parts.proofs.Saying.{says_refused}
 use Rattle.moving.specs.Sections.{HeadIs, TableIs}
 use Rattle.moving.proofs.Sections.{head_stays, table_stays, assembled, says_made}
-use Rattle.range.specs.declared.Axis.{Axis}
-use Rattle.range.specs.declared.Axis.TheVariants.{Along, Nowhere}
 use Rattle.range.specs.declared.Cut.{Cut}
-use Rattle.range.specs.Cutting.{cut_by, CutAlong, AxisIs, CutAsked, DepsCut}
+use Rattle.range.specs.Cutting.{cut_by, uncuttable, CutAlong, CutAsked, DepsCut}
 
 -- ---- what stands in a part that was loaded
 
@@ -49,15 +47,11 @@ module _ {t : List ℤ} (h : Holds 0 t) where
 
 -- ---- the answer
 
--- the axis that was told
-pub told_along : {few axis : ℕ} {l : Layout} {a : Axis} → AxisIs few l a → a ≡ Along axis → CutAlong few l axis
-told_along f e = rw e at f
-
 module _ {x y : Head} {p q : List ℤ} (target : SoundRecord x p) (source : SoundRecord y q) (start end : ℕ) where
   -- the source cannot be cut
-  pub cannot_says : {a : Axis} {t : List ℤ} → AxisIs x.rank (layout_in q) a → a ≡ Nowhere → Says (filter_deps_from (layout_in p) (layout_in q) start end) 0 t (Refused Unjoinable)
+  pub cannot_says : {t : List ℤ} → uncuttable x.rank (layout_in q) ≡ true → Says (filter_deps_from (layout_in p) (layout_in q) start end) 0 t (Err Unjoinable)
   unfolding number_of
-  cannot_says f e = says_refused Unjoinable 0 _ (filter_bars (layout_in p) (layout_in q) start end (rw (rank_shown target) (rw e at f)))
+  cannot_says e = says_refused Unjoinable 0 _ (filter_bars (layout_in p) (layout_in q) start end (rw (rank_shown target) e))
 
   -- it can
   module _ {axis : ℕ} (a : CutAlong x.rank (layout_in q) axis) where
@@ -110,7 +104,7 @@ module _ {x y : Head} {p q : List ℤ} (target : SoundRecord x p) (source : Soun
     inputs_are = rw (a.is, ← rank_shown target, layout_shown source) refl
 
     -- they meet or fall out of order
-    broken : {t : List ℤ} → increasing states && increasing inputs ≡ false → Says (filter_deps_from (layout_in p) (layout_in q) start end) 0 t (Refused MadeUnsound)
+    broken : {t : List ℤ} → increasing states && increasing inputs ≡ false → Says (filter_deps_from (layout_in p) (layout_in q) start end) 0 t (Err MadeUnsound)
     unfolding number_of
     broken e = says_refused MadeUnsound 0 _ (filter_breaks (layout_in p) (layout_in q) start end can e)
 
@@ -118,14 +112,14 @@ module _ {x y : Head} {p q : List ℤ} (target : SoundRecord x p) (source : Soun
       states_told : increasing states ≡ b
       states_told = sym (first.told ∙ ap increasing states_are)
 
-      pub states_break : not b ≡ true → Says (filter_deps_from (layout_in p) (layout_in q) start end) 0 u (Refused MadeUnsound)
+      pub states_break : not b ≡ true → Says (filter_deps_from (layout_in p) (layout_in q) start end) 0 u (Err MadeUnsound)
       states_break e = broken (rw (states_told, not-true b e))
 
       module _ (fine : not b ≡ false) {v : List ℤ} {d : Bool} (second : DepsCut y.rank y.inputs cut q inputs_from u v d) where
         inputs_told : increasing inputs ≡ d
         inputs_told = sym (second.told ∙ ap increasing inputs_are)
 
-        pub inputs_break : not d ≡ true → Says (filter_deps_from (layout_in p) (layout_in q) start end) 0 v (Refused MadeUnsound)
+        pub inputs_break : not d ≡ true → Says (filter_deps_from (layout_in p) (layout_in q) start end) 0 v (Err MadeUnsound)
         inputs_break e = broken (rw (states_told, not-false b fine, inputs_told, not-true d e))
 
         -- the target with them
@@ -148,7 +142,7 @@ module _ {x y : Head} {p q : List ℤ} (target : SoundRecord x p) (source : Soun
             (table_stays second.made.only (inl (omega (arith, few, rank_shown target))) (rw (states_are, ← rank_shown target) at first.made.table))
             (rw (inputs_are, ← rank_shown target) at second.made.table)
 
-        pub filtered_says : not d ≡ false → Says (filter_deps_from (layout_in p) (layout_in q) start end) 0 v Done
+        pub filtered_says : not d ≡ false → Says (filter_deps_from (layout_in p) (layout_in q) start end) 0 v (Ok tt)
         filtered_says e =
             let order : increasing states && increasing inputs ≡ true = rw (states_told, not-false b fine, inputs_told, not-false d e) in
             says_made (filter_given (layout_in p) (layout_in q) start end (layout_sound target) (layout_sound source) can order) there

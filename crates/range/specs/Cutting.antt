@@ -1,5 +1,5 @@
 -- Entries of a record in a range along an axis, and what is left of each, over the shape and the ranks alone.
-use Rattle.std.specs.Prelude.{◌≡◌, Bool, true, false, not, ◌&&◌, ◌||◌, List, map, ℕ, ◌+◌, ◌-◌, ◌<◌, ◌≤◌, eqb, leb, ltb, ℤ, length, get_or, take}
+use Rattle.std.specs.Prelude.{◌≡◌, Bool, false, not, ◌&&◌, ◌||◌, List, map, ℕ, ◌+◌, ◌-◌, ◌<◌, ◌≤◌, eqb, leb, ltb, ℤ, length, get_or, take}
 use Rattle.rules.specs.declared.Entries.{Entries}
 use Rattle.rules.specs.Limits.{rank_limit, entry_limit}
 use Rattle.rules.specs.Lists.{keep, below, all_below}
@@ -11,8 +11,6 @@ use Rattle.cells.specs.View.{view}
 use Rattle.tables.specs.Rows.{row_at, rows_at, HasRow, HasRows}
 use Rattle.tables.specs.Tables.{room_end}
 use Rattle.moving.specs.Sections.{TableMade}
-use Rattle.range.specs.declared.Axis.{Axis}
-use Rattle.range.specs.declared.Axis.TheVariants.{Along, Nowhere}
 use Rattle.range.specs.declared.Cut.{Cut}
 
 -- ---- the axis
@@ -36,10 +34,6 @@ pub record CutAlong (few : ℕ) (source : Layout) (axis : ℕ) : Type 0 where
   pub can_cut : uncuttable few source ≡ false
   pub is : axis ≡ cut_axis source
   pub within : axis < rank source
-
-abbrev pub AxisIs : ℕ → Layout → Axis → Type 0
-AxisIs few source (Along axis) = CutAlong few source axis
-AxisIs few source Nowhere = uncuttable few source ≡ true
 
 -- ---- an entry
 

@@ -2,29 +2,23 @@
 // each. The other layout goes into one part, and they replace its own.
 #![tactic(auto)]
 
-ghost use Rattle.std.specs.Prelude.{◌≡◌, ◌+◌, ◌≤◌, length};
+ghost use Rattle.std.specs.Prelude.{◌≡◌, true, ◌+◌, ◌≤◌, length};
+ghost use Rattle.std.specs.Option.{MatchOption};
 ghost use Rattle.rules.specs.Record.{layout_in};
 ghost use Rattle.rules.specs.FilterDepsFrom.{filter_deps_from};
 ghost use Rattle.tables.specs.Rows.{row_at};
 ghost use Rattle.records.specs.Sound.{SoundRecord};
 ghost use Rattle.parts.specs.Parts.{part_size};
 ghost use Rattle.parts.specs.Answers.{Says};
-ghost use Rattle.range.specs.Cutting.{WideIs, AxisIs, EntryAsked, RowAsked, CutAsked, in_cut, cut_dep, DepsCut};
+ghost use Rattle.range.specs.Cutting.{WideIs, uncuttable, CutAlong, EntryAsked, RowAsked, CutAsked, in_cut, cut_dep, DepsCut};
 
-use rules::{Entries, Head, Refusal, Step};
+use rules::{Entries, Head, Kind, Refusal};
 
 // The axes whose extent is over 1: how many there are, and the first of them, 0 where there is none.
 #[derive(Clone, Copy)]
 struct Wide {
     count: usize,
     first: usize,
-}
-
-// The axis along which a source is cut, or that it cannot be.
-#[derive(Clone, Copy)]
-enum Axis {
-    Along(usize),
-    Nowhere,
 }
 
 // How entries are cut: along an axis, from a start to below an end, and to a rank.
@@ -43,38 +37,35 @@ fn wide_axes(s: &[i32], at: usize, rank: usize) -> Wide
 {
     let mut count: usize = 0;
     let mut first = 0;
-    let mut k = rank;
-    while 0 < k {
-        k -= 1;
-        if cells::get(s, at + k) <= 1 {
-            continue;
+    for k in (0..rank).rev() {
+        if 1 < cells::get(s, at + k) {
+            count += 1;
+            first = k;
         }
-        count += 1;
-        first = k;
     }
     Wide { count, first }
 }
 
 // The axis along which a source is cut for a target of a rank: none where the source is not dense, has no axis or two extents over 1,
 // or has fewer axes than the target.
-fn axis_to_cut(source: &[i32], other: Head, rank: usize) -> Axis
+fn axis_to_cut(source: &[i32], other: Head, rank: usize) -> Option<usize>
     requires { SoundRecord other source.now }
-    ensures { AxisIs rank (layout_in source.now) result }
+    ensures { MatchOption result (uncuttable rank (layout_in source.now) ≡ true) (CutAlong rank (layout_in source.now)) }
 {
-    if 0 < cells::get(source, records::KIND) {
-        return Axis::Nowhere;
-    }
+    let Kind::Dense = records::kind_at(source, records::KIND) else {
+        return None;
+    };
     if other.rank == 0 {
-        return Axis::Nowhere;
+        return None;
     }
     if other.rank < rank {
-        return Axis::Nowhere;
+        return None;
     }
     let wide = wide_axes(source, records::EXTENTS, other.rank);
     if 1 < wide.count {
-        return Axis::Nowhere;
+        return None;
     }
-    Axis::Along(wide.first)
+    Some(wide.first)
 }
 
 // Whether the entry at a place lies in the shape of its record, and in the range.
@@ -85,15 +76,12 @@ fn in_range(s: &[i32], at: usize, rank: usize, cut: Cut) -> bool
     if !axes::row_below(s, at, s, records::EXTENTS, rank) {
         return false;
     }
-    let component = cells::get(s, at + cut.axis);
-    if component < cut.start {
-        return false;
-    }
-    component < cut.end
+    (cut.start..cut.end).contains(&cells::get(s, at + cut.axis))
 }
 
 // What is left of an entry that lies in the range, by value: its index, shortened and less the start on the axis that is cut, if that
 // remains, and its number.
+#[tactic(auto, using(crate::proofs::Entries::cutting))]
 fn cut_row(s: &[i32], at: usize, rank: usize, cut: Cut) -> [i32; 5]
     requires { RowAsked at rank cut s.now }
     ensures { row_at 0 (cut.rank + 1) result ≡ cut_dep cut (row_at at (rank + 1) s.now) }
@@ -117,10 +105,8 @@ fn cut_deps(s: &[i32], rank: usize, deps: Entries, cut: Cut, part: &mut [i32], a
     let w = cut.rank + 1;
     cells::store(part, at, 0);
     let mut n = 0;
-    let mut i = 0;
-    while i < deps.count {
+    for i in 0..deps.count {
         let entry = deps.first + i * width;
-        i += 1;
         if !in_range(s, entry, rank, cut) {
             continue;
         }
@@ -141,28 +127,24 @@ pub fn filter_into(
     start: usize,
     end: usize,
     part: &mut [i32],
-) -> Step
+) -> Result<(), Refusal>
     requires sound_record { SoundRecord head target.now × SoundRecord other source.now }
     requires part_size_in_bounds { part_size ≤ length part.old }
     ensures { Says (filter_deps_from (layout_in target.now) (layout_in source.now) start end) 0 part.new result }
 {
-    let Axis::Along(axis) = axis_to_cut(source, other, head.rank) else {
-        return Step::Refused(Refusal::Unjoinable);
-    };
+    let axis = axis_to_cut(source, other, head.rank).ok_or(Refusal::Unjoinable)?;
     let cut = Cut {
         axis,
         start,
         end,
         rank: head.rank,
     };
-    let states = other.states;
-    let inputs = other.inputs;
     parts::load(target, head, part);
-    if !cut_deps(source, other.rank, states, cut, part, parts::STATES) {
-        return Step::Refused(Refusal::MadeUnsound);
+    if !cut_deps(source, other.rank, other.states, cut, part, parts::STATES) {
+        return Err(Refusal::MadeUnsound);
     }
-    if !cut_deps(source, other.rank, inputs, cut, part, parts::INPUTS) {
-        return Step::Refused(Refusal::MadeUnsound);
+    if !cut_deps(source, other.rank, other.inputs, cut, part, parts::INPUTS) {
+        return Err(Refusal::MadeUnsound);
     }
-    Step::Done
+    Ok(())
 }

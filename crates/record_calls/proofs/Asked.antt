@@ -1,4 +1,5 @@
 -- What is asked of a sound record, in the words of the rules. Assumes nothing.
+use Rattle.std.specs.Prelude.{None, Option, Some}
 use mathlib.Core.Path.{◌≡◌, sym, ap, ◌∙◌}
 use mathlib.Core.Bool.{Bool, true, false}
 use mathlib.Core.List.{List}
@@ -15,8 +16,6 @@ use Rattle.rules.specs.Lookup.{good_indices, places_of, find_nnz_indices_call}
 use Rattle.rules.specs.Refusals.{given, refused, lowest}
 use Rattle.rules.specs.CountsAndForms.{min_rank_of}
 use Rattle.rules.proofs.Same.{both_true}
-use Rattle.cells.specs.declared.Sign.{Sign}
-use Rattle.cells.specs.declared.Sign.TheVariants.{Natural, Negative}
 use Rattle.cells.specs.View.{sign_of}
 use Rattle.records.specs.Sound.{SoundRecord}
 use Rattle.records.proofs.Sections.{sign_natural}
@@ -37,13 +36,13 @@ min_rank_read r e = e ∙ ap min_rank_of (lent_shape r)
 
 -- ---- many indices
 
-module _ (z : ℤ) (indices : List ℤ) {g : Sign} (e : g ≡ sign_of z) where
+module _ (z : ℤ) (indices : List ℤ) {g : (Option ℕ)} (e : g ≡ sign_of z) where
   -- a count below 0 is none
-  pub count_negative : (r : ℕ) → g ≡ Negative → good_indices z indices r ≡ false
+  pub count_negative : (r : ℕ) → g ≡ None → good_indices z indices r ≡ false
   unfolding good_indices
   count_negative r f = rw (← none_up_to z (sym e ∙ f) result_size)
 
-  module _ {s : List ℤ} {h : Head} {n : ℕ} (r : SoundRecord h s) (f : g ≡ Natural n) where
+  module _ {s : List ℤ} {h : Head} {n : ℕ} (r : SoundRecord h s) (f : g ≡ Some n) where
     -- the count is the number that was read, and the rank the one that stands in the slice
     pub indices_counted : {b : Bool} → b ≡ good_indices (pos n) indices h.rank → b ≡ good_indices z indices (natural (get_or s 2 (pos 0)))
     unfolding natural

@@ -3,24 +3,21 @@ ghost use Rattle.std.specs.Prelude.{◌≡◌};
 ghost use Rattle.rules.specs.Endings.{place_says};
 ghost use Rattle.rules.specs.Lookup.{find_nnz_index_call};
 
-use records::Finding;
-use rules::{Place, Refusal};
+use rules::Refusal;
 
 // Where a record has an index.
-pub fn find_nnz_index(record: &[i32], index: &[i32]) -> Place
+pub fn find_nnz_index(record: &[i32], index: &[i32]) -> Result<Option<usize>, Refusal>
     ensures { place_says result ≡ find_nnz_index_call «record».now index.now }
 {
     if records::over_record(record) {
-        return Place::Refused(Refusal::OverCount);
+        return Err(Refusal::OverCount);
     }
-    let Finding::Sound(head, ordered) = records::judged(record) else {
-        return Place::Refused(Refusal::Unsound);
-    };
+    let (head, ordered) = records::judged(record).ok_or(Refusal::Unsound)?;
     if !ordered {
-        return Place::Refused(Refusal::Unordered);
+        return Err(Refusal::Unordered);
     }
     if !shapes::good_index(index, head.rank) {
-        return Place::Refused(Refusal::WrongArgument);
+        return Err(Refusal::WrongArgument);
     }
-    lookups::find(record, head, index)
+    Ok(lookups::find(record, head, index))
 }

@@ -1,11 +1,10 @@
 -- A text at the front of a slice grows with what is written right behind it. Assumes nothing.
 use mathlib.Core.Path.{◌≡◌, refl, sym, ap, ◌∙◌}
 use mathlib.Core.List.{List, [], ◌++◌, append_assoc}
-use Prim.Native.Nat.{ℕ, ◌+◌, ◌<◌, ◌≤◌}
-use native.Mathlib.Numerals.{add-one}
+use Prim.Native.Nat.{ℕ, ◌+◌, ◌≤◌}
 use native.Mathlib.Omega.{arith}
-use lib.ListN.{length, get_or, take, drop, set, length-append, length-set}
-use lib.Seq.{take_at, take-suc, take-suc-set, take-length, length-take-le}
+use lib.ListN.{length, take, drop, length-append}
+use lib.Seq.{take_at, length-take-le}
 use Rattle.io.specs.Counts.{IsPrefixLen}
 use Rattle.text.specs.Placed.{put_bytes, Wrote}
 use Rattle.record_text.specs.Fronts.{Front}
@@ -36,37 +35,3 @@ front_wrote {text} {new} {old} {now} {most} {n} {r} f w h =
       counts = counted r ((take n old ++ new) ++ behind) (simp length-append (omega arith));
       is = take_at (take n old ++ new) behind r size ∙ ap (λ (l : List ℕ). l ++ new) f.is;
     })
-
--- ---- bytes copied one by one
-
--- the first i bytes were copied
-pub record Copied (bytes old now : List ℕ) (i : ℕ) : Type 0 where
-  pub few : i ≤ length bytes
-  pub room : length bytes ≤ length old
-  pub size : length now ≡ length old
-  pub front : Front (take i bytes) now i
-
--- none yet
-pub copied_none : {bytes old : List ℕ} → length bytes ≤ length old → Copied bytes old old 0
-copied_none {bytes} {old} h = record { few = omega arith; room = h; size = refl; front = front_none old }
-
-module _ {bytes old now : List ℕ} {i : ℕ} (p : Copied bytes old now i) where
-  -- one more
-  pub copied_more : i < length bytes → Copied bytes old (set now i (get_or bytes i 0)) (i + 1)
-  copied_more h = record {
-    few = omega arith;
-    room = p.room;
-    size = simp length-set p.size;
-    front = record {
-      counts = counted (i + 1) (set now i (get_or bytes i 0)) (simp length-set (omega arith));
-      is = rw (add-one, take-suc-set now i (get_or bytes i 0) (omega arith), take-suc bytes i 0 h, p.front.is);
-    };
-  }
-
-  -- all of them
-  pub copied_all : length bytes ≤ i → (i ≡ length bytes) × Front bytes now i
-  copied_all h =
-      let all : i ≡ length bytes = omega arith in
-      (all, record { counts = p.front.counts; is = p.front.is ∙ rw all (take-length bytes) })
-
-pub ruleset laws = (copied_none, copied_more, copied_all)

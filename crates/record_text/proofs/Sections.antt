@@ -1,4 +1,5 @@
 -- The lines of a record by the places of its sections: what was written, and what a sound record has there. Assumes nothing.
+use Rattle.std.specs.Prelude.{None, Option, Some}
 use mathlib.Core.Path.{◌≡◌, sym, ap, ◌∙◌}
 use mathlib.Core.Bool.{true}
 use mathlib.Core.List.{List}
@@ -7,8 +8,6 @@ use native.Mathlib.Omega.{arith}
 use lib.IntN.{ℤ}
 use lib.ListN.{length, take, drop, length-append}
 use Rattle.rules.specs.declared.Head.{Head}
-use Rattle.rules.specs.declared.Walk.{Walk}
-use Rattle.rules.specs.declared.Walk.TheVariants.{To, Broken}
 use Rattle.rules.specs.Limits.{result_size}
 use Rattle.rules.specs.Buffers.{part}
 use Rattle.rules.specs.Layout.{Layout, rank, encode}
@@ -49,12 +48,12 @@ five_wrote s {o₀} turn room l₁ l₂ l₃ l₄ w₁ w₂ w₃ w₄ w₅ =
 
 -- ---- a sound record
 
-module _ (s : List ℤ) (e : sound s ≡ true) {w : Walk} (is : w ≡ walk s) where
+module _ (s : List ℤ) (e : sound s ≡ true) {w : Option Head} (is : w ≡ walk s) where
   -- it was walked
-  pub not_broken : w ≡ Broken → ⊥
+  pub not_broken : w ≡ None → ⊥
   not_broken f = let z : ◌≡◌ {A = ℕ} 0 1 = cc (walk_sound s e) in omega arith
 
-  module _ {h : Head} (f : w ≡ To h) where
+  module _ {h : Head} (f : w ≡ Some h) where
     -- by the head of its layout
     head_is : h ≡ head_of (layout_in s)
     head_is = cc (walk_sound s e)

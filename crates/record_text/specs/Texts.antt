@@ -1,8 +1,6 @@
 -- A text as a list of numbers.
-use Rattle.std.specs.Prelude.{◌≡◌, List, ℕ, ◌≤◌, ltb, ℤ, length, take}
+use Rattle.std.specs.Prelude.{◌≡◌, List, ℕ, ◌≤◌, ltb, ℤ, length, take, Option, Some, None}
 use Rattle.rules.specs.Lists.{if}
-use Rattle.text.specs.declared.Read.{Read}
-use Rattle.text.specs.declared.Read.TheVariants.{Numbers, Other}
 use Rattle.text.specs.Read.{Reading, numbers, other, read_text}
 
 -- a text of more than 65,536 bytes is no list of numbers
@@ -15,6 +13,6 @@ pub record ListFront (text : List ℕ) (slice : List ℤ) (n : ℕ) : Type 0 whe
   pub fits : n ≤ length slice
 
 -- an answer goes by whether there are numbers
-abbrev pub ListRead : List ℕ → List ℤ → Read → Type 0
-ListRead text slice (Numbers n) = ListFront text slice n
-ListRead text slice Other = text_reading text ≡ other
+abbrev pub ListRead : List ℕ → List ℤ → Option ℕ → Type 0
+ListRead text slice (Some n) = ListFront text slice n
+ListRead text slice None = text_reading text ≡ other

@@ -12,14 +12,17 @@ ghost use Rattle.record_text.specs.Fronts.{Front};
 ghost use Rattle.record_text.specs.Sections.{line_from, five_lines, InTurn};
 ghost use Rattle.record_text.specs.Texts.{ListRead};
 
-use rules::{Refusal, Walk};
-use text::Read;
+use rules::{Head, Refusal};
+
+// The most bytes that a text can have.
+const TEXT_SIZE: usize = 65536;
 
 // The bytes of an input go to the front of a slice, to the input's end or as many as there is room for; answers how many.
 pub fn read_full<R: std::io::Read>(input: &mut R, buf: &mut [u8]) -> std::io::Result<usize>
     ensures { ReadsAtMost result buf.new }
 {
     let mut done = 0;
+    // std's `read_exact` does not say how much came before the input's end, and `read_to_end` takes memory of the heap
     while done < buf.len() {
         let n = input.read(&mut buf[done..])?;
         if n == 0 {
@@ -30,13 +33,13 @@ pub fn read_full<R: std::io::Read>(input: &mut R, buf: &mut [u8]) -> std::io::Re
     Ok(done)
 }
 
-// The numbers of a text go to the front of a slice. One byte over 65,536 is too much text.
-pub fn read_list(text: &[u8], numbers: &mut [i32]) -> Read
+// The numbers of a text go to the front of a slice; answers how many, or nothing for other text. One byte over 65,536 is too much.
+pub fn read_list(text: &[u8], numbers: &mut [i32]) -> Option<usize>
     requires { 32768 ≤ length numbers.old }
     ensures { ListRead text.now numbers.new result }
 {
-    if 65536 < text.len() {
-        return Read::Other;
+    if TEXT_SIZE < text.len() {
+        return None;
     }
     text::read_numbers(text, numbers)
 }
@@ -46,37 +49,24 @@ pub fn write_layout(s: &[i32], out: &mut [u8]) -> usize
     requires { (sound s.now ≡ true) × (32768 ≤ length out.old) }
     ensures { Front (layout_text (layout_in s.now)) out.new result }
 {
-    let Walk::To(head) = records::walk_record(s) else {
+    let Some(head) = records::walk_record(s) else {
         return 0;
     };
-    let rows = head.rank + records::EXTENTS;
-    write_lines(
-        s,
-        rows,
-        head.rows.next,
-        head.states.next,
-        head.inputs.next,
-        out,
-    )
+    write_lines(s, &head, out)
 }
 
-// The five lines of a record whose sections begin at the places given go to the front of out; answers how many bytes they have.
-fn write_lines(
-    s: &[i32],
-    rows: usize,
-    states: usize,
-    inputs: usize,
-    end: usize,
-    out: &mut [u8],
-) -> usize
-    requires { InTurn rows states inputs end (length s.now) × (12 * end + 5 ≤ length out.old) }
-    ensures { Front (five_lines rows states inputs end s.now) out.new result }
+// The five lines of a record with that head go to the front of out; answers how many bytes they have.
+fn write_lines(s: &[i32], head: &Head, out: &mut [u8]) -> usize
+    requires in_turn { InTurn (head.now.rank + 3) head.now.rows.next head.now.states.next head.now.inputs.next (length s.now) }
+    requires room { 12 * head.now.inputs.next + 5 ≤ length out.old }
+    ensures { Front (five_lines (head.now.rank + 3) head.now.rows.next head.now.states.next head.now.inputs.next s.now) out.new result }
 {
+    let rows = head.rank + records::EXTENTS;
     let mut at = write_part(s, records::KIND, records::RANK, out, 0);
     at = write_part(s, records::RANK, rows, out, at);
-    at = write_part(s, rows, states, out, at);
-    at = write_part(s, states, inputs, out, at);
-    write_part(s, inputs, end, out, at)
+    at = write_part(s, rows, head.rows.next, out, at);
+    at = write_part(s, head.rows.next, head.states.next, out, at);
+    write_part(s, head.states.next, head.inputs.next, out, at)
 }
 
 // The numbers between two places go to a place of out as a line; answers the place behind it.
@@ -102,10 +92,6 @@ pub fn write_bytes(bytes: &[u8], out: &mut [u8]) -> usize
     requires { length bytes.now ≤ length out.old }
     ensures { (result ≡ length bytes.now) × Front bytes.now out.new result }
 {
-    let mut i = 0;
-    while i < bytes.len() {
-        out[i] = bytes[i];
-        i += 1;
-    }
-    i
+    out[..bytes.len()].copy_from_slice(bytes);
+    bytes.len()
 }

@@ -1,4 +1,5 @@
 -- `sound_by` and `row`: what is answered about a record. Assumes nothing.
+use Rattle.std.specs.Prelude.{None, Option, Some}
 use mathlib.Core.Path.{◌≡◌, refl, sym, ap, ◌∙◌}
 use mathlib.Core.Bool.{Bool, true, false, not, and-true, and-false}
 use mathlib.Core.List.{List, [], map}
@@ -10,8 +11,6 @@ use lib.IntN.{ℤ, pos, negsuc}
 use lib.ListN.{length, take, drop, length-replicate, length-map}
 use lib.Signed.{mag, non_neg}
 use Rattle.rules.specs.declared.Head.{Head}
-use Rattle.rules.specs.declared.Walk.{Walk}
-use Rattle.rules.specs.declared.Walk.TheVariants.{To, Broken}
 use Rattle.rules.specs.Lists.{all}
 use Rattle.rules.specs.Buffers.{part}
 use Rattle.rules.specs.Layout.{well_formed, within_sizes, sound_layout}
@@ -21,12 +20,8 @@ use Rattle.rules.proofs.Buffers.{length_part}
 use Rattle.rules.proofs.RowsRead.{rows_length}
 use borrow.Rule.Slice.Shared.{by_size}
 use denote.Ref.{Bor}
-use Rattle.cells.specs.declared.Sign.{Sign}
-use Rattle.cells.specs.declared.Sign.TheVariants.{Natural, Negative}
 use Rattle.cells.specs.View.{view, Low, sign_of}
 use Rattle.cells.proofs.Signed.{held, back}
-use Rattle.records.specs.declared.Fit.{Fit}
-use Rattle.records.specs.declared.Fit.TheVariants.{Unfit}
 use Rattle.rules.specs.Endings.{BeginsAt}
 use Rattle.records.specs.Heads.{HeadOf}
 use Rattle.records.specs.Judging.{Readable, few_entries, fit_of, rows_increase}
@@ -87,14 +82,14 @@ module _ {h : Head} {s : List ℤ} (g : HeadOf h s) where
 -- ---- a walked record: `sound_by`
 
 -- what is found of it, by whether it is sound
-abbrev found : Head → List ℤ → Fit
-found h s = fit_of (sound_from (To h) s) (rows_increase h s)
+abbrev found : Head → List ℤ → Option Bool
+found h s = fit_of (sound_from (Some h) s) (rows_increase h s)
 
 module _ {h : Head} {s : List ℤ} (g : HeadOf h s) {t₁ : Bool} (e₁ : t₁ ≡ few_entries h) where
   -- it has too many entries
-  pub too_many : not t₁ ≡ true → Unfit ≡ found h s
+  pub too_many : not t₁ ≡ true → None ≡ found h s
   too_many f =
-      unfit (sound_from (To h) s) (rows_increase h s)
+      unfit (sound_from (Some h) s) (rows_increase h s)
       (sym (rw (many_entries g (sym e₁ ∙ not-true t₁ f)) (and-false (all non_neg (take h.inputs.next s)))))
 
   module _ (f₁ : not t₁ ≡ false) {t₂ : Bool} where
@@ -104,19 +99,19 @@ module _ {h : Head} {s : List ℤ} (g : HeadOf h s) {t₁ : Bool} (e₁ : t₁ �
 
 module _ (h : Head) (s : List ℤ) {t : Bool} (e : t ≡ all non_neg (take h.inputs.next s)) where
   -- it has a negative number
-  pub is_negative : not t ≡ true → Unfit ≡ found h s
-  is_negative f = unfit (sound_from (To h) s) (rows_increase h s) (first_fails (sound_layout (layout_by h s)) e f)
+  pub is_negative : not t ≡ true → None ≡ found h s
+  is_negative f = unfit (sound_from (Some h) s) (rows_increase h s) (first_fails (sound_layout (layout_by h s)) e f)
 
   module _ (f : not t ≡ false) {u : Bool} (d : u ≡ within_sizes (layout_by h s)) where
     -- it breaks a limit of size
-    pub is_large : not u ≡ true → Unfit ≡ found h s
+    pub is_large : not u ≡ true → None ≡ found h s
     unfolding sound_layout
     is_large k =
-        unfit (sound_from (To h) s) (rows_increase h s)
+        unfit (sound_from (Some h) s) (rows_increase h s)
         (sym (first_holds e f ∙ rw (← d, not-true u k) (and-false (well_formed (layout_by h s)))))
 
     -- it keeps them, so the other rules decide
-    pub by_form : {r : Fit} → not u ≡ false → r ≡ fit_of (well_formed (layout_by h s)) (rows_increase h s) → r ≡ found h s
+    pub by_form : {r : (Option Bool)} → not u ≡ false → r ≡ fit_of (well_formed (layout_by h s)) (rows_increase h s) → r ≡ found h s
     unfolding sound_layout
     by_form k q =
         q
@@ -128,15 +123,15 @@ pub ruleset judged = (too_many, is_readable, is_negative, is_large, by_form)
 
 module _ {h : Head} {s : List ℤ} (p : Readable h s) (i : ℕ) where
   -- there is no row i
-  pub no_row : h.rows.count ≤ i → [] ≡ row_part i (To h) s
+  pub no_row : h.rows.count ≤ i → [] ≡ row_part i (Some h) s
   no_row l = rw (le-ltb i h.rows.count)
 
   -- an empty part is the one at the front
-  pub no_row_place : h.rows.count ≤ i → 0 ≡ row_start i (To h)
+  pub no_row_place : h.rows.count ≤ i → 0 ≡ row_start i (Some h)
   no_row_place l = rw (le-ltb i h.rows.count)
 
   -- row i begins behind those before it
-  pub row_place_lem : i < h.rows.count → h.rows.first + i * h.width ≡ row_start i (To h)
+  pub row_place_lem : i < h.rows.count → h.rows.first + i * h.width ≡ row_start i (Some h)
   row_place_lem l = rw (lt-ltb i h.rows.count)
 
   -- row i ends in the slice
@@ -144,7 +139,7 @@ module _ {h : Head} {s : List ℤ} (p : Readable h s) (i : ℕ) where
   row_ended l = let e = rows_room p in row_room h.rows.first h.width l e
 
   -- it is a part of the slice
-  pub is_row : i < h.rows.count → let from = h.rows.first + i * h.width in take (from + h.width - from) (drop from s) ≡ row_part i (To h) s
+  pub is_row : i < h.rows.count → let from = h.rows.first + i * h.width in take (from + h.width - from) (drop from s) ≡ row_part i (Some h) s
   unfolding part
   is_row l =
       let from = h.rows.first + i * h.width in
@@ -173,40 +168,40 @@ no_place_there s (pos i) e = rw e
 no_place_there s (negsuc i) e = refl
 
 -- a negative number asks for none
-no_row_negative : (s : List ℤ) (z : ℤ) → sign_of z ≡ Negative → [] ≡ row s z
+no_row_negative : (s : List ℤ) (z : ℤ) → sign_of z ≡ None → [] ≡ row s z
 unfolding row
 no_row_negative s z e = rw (sign_negative z e)
 
-no_place_negative : (s : List ℤ) (z : ℤ) → sign_of z ≡ Negative → 0 ≡ row_place s z
+no_place_negative : (s : List ℤ) (z : ℤ) → sign_of z ≡ None → 0 ≡ row_place s z
 unfolding row_place
 no_place_negative s z e = rw (sign_negative z e)
 
 module _ (s : List ℤ) (z : ℤ) where
   -- the record is not sound
-  pub unsound_row : {r : Walk} → r ≡ sound_head s → r ≡ Broken → [] ≡ row s z
+  pub unsound_row : {r : (Option Head)} → r ≡ sound_head s → r ≡ None → [] ≡ row s z
   unsound_row e f = no_row_there s z (no_head s e f)
 
-  pub unsound_place : {r : Walk} → r ≡ sound_head s → r ≡ Broken → 0 ≡ row_place s z
+  pub unsound_place : {r : (Option Head)} → r ≡ sound_head s → r ≡ None → 0 ≡ row_place s z
   unsound_place e f = no_place_there s z (no_head s e f)
 
-  module _ {g : Sign} (small : mag z < 2 ^ 31) (e : g ≡ sign_of (held z)) where
+  module _ {g : (Option ℕ)} (small : mag z < 2 ^ 31) (e : g ≡ sign_of (held z)) where
     -- the sign of the number that was asked for
     asked : sign_of z ≡ g
     asked = sym (e ∙ ap sign_of (back z small))
 
     -- it is negative
-    pub negative_row : g ≡ Negative → [] ≡ row s z
+    pub negative_row : g ≡ None → [] ≡ row s z
     negative_row f = no_row_negative s z (asked ∙ f)
 
-    pub negative_place : g ≡ Negative → 0 ≡ row_place s z
+    pub negative_place : g ≡ None → 0 ≡ row_place s z
     negative_place f = no_place_negative s z (asked ∙ f)
 
     -- it is natural
-    pub found_row : {h : Head} {i : ℕ} {l : List ℤ} → SoundRecord h s → g ≡ Natural i → l ≡ row_part i (To h) s → l ≡ row s z
+    pub found_row : {h : Head} {i : ℕ} {l : List ℤ} → SoundRecord h s → g ≡ Some i → l ≡ row_part i (Some h) s → l ≡ row s z
     unfolding row
     found_row r f m = m ∙ rw (sign_natural z (asked ∙ f), r.judged, r.walked)
 
-    pub found_place : {h : Head} {i : ℕ} → SoundRecord h s → g ≡ Natural i → row_start i (To h) ≡ row_place s z
+    pub found_place : {h : Head} {i : ℕ} → SoundRecord h s → g ≡ Some i → row_start i (Some h) ≡ row_place s z
     unfolding row_place
     found_place r f = rw (sign_natural z (asked ∙ f), r.judged, r.walked)
 

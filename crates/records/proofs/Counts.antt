@@ -1,4 +1,5 @@
 -- `few_entries` and `over_record`: counts against their limits. Assumes nothing.
+use Rattle.std.specs.Prelude.{None, Option, Some}
 use mathlib.Core.Path.{◌≡◌, sym, ap, ◌∙◌}
 use mathlib.Core.Bool.{false}
 use mathlib.Core.List.{List}
@@ -10,8 +11,6 @@ use lib.ListN.{length, get_or, get_or-eq_default}
 use Rattle.rules.specs.declared.Head.{Head}
 use Rattle.rules.specs.Record.{natural}
 use Rattle.rules.specs.Arguments.{over_rank, over_record}
-use Rattle.cells.specs.declared.Sign.{Sign}
-use Rattle.cells.specs.declared.Sign.TheVariants.{Natural, Negative}
 use Rattle.cells.specs.View.{sign_of}
 use Rattle.records.specs.Judging.{few_entries}
 use Rattle.records.proofs.Sections.{sign_natural, sign_negative}
@@ -25,12 +24,12 @@ module _ (s : List ℤ) where
   no_rank h = rw (get_or-eq_default s (pos 0) h)
 
   -- a natural rank
-  pub rank_read : {g : Sign} {r : ℕ} → g ≡ sign_of (get_or s 2 (pos 0)) → g ≡ Natural r → ltb 4 r ≡ over_record s
+  pub rank_read : {g : (Option ℕ)} {r : ℕ} → g ≡ sign_of (get_or s 2 (pos 0)) → g ≡ Some r → ltb 4 r ≡ over_record s
   unfolding natural
   rank_read e f = sym (ap over_rank (sign_natural (get_or s 2 (pos 0)) (sym e ∙ f)))
 
   -- a negative rank
-  pub rank_negative : {g : Sign} → g ≡ sign_of (get_or s 2 (pos 0)) → g ≡ Negative → false ≡ over_record s
+  pub rank_negative : {g : (Option ℕ)} → g ≡ sign_of (get_or s 2 (pos 0)) → g ≡ None → false ≡ over_record s
   unfolding natural
   rank_negative e f = sym (ap over_rank (sign_negative (get_or s 2 (pos 0)) (sym e ∙ f)))
 

@@ -1,6 +1,5 @@
 -- Laws about records in a slice.
 --     Sections, Walks                        where a section lies, and a record
---     Read, Readers                          what a call that reads a section leaves, and what a reader owns
 --     InTurn                                 tests put one after the other
 --     Numbers, Counts                        tests of numbers
 --     RowTests, KindTests                    tests of rows, and of kinds
@@ -12,8 +11,6 @@
 --     Determined                             two parts that the contract of `row` allows are one
 pub mod Sections
 pub mod Walks
-pub mod Read
-pub mod Readers
 pub mod InTurn
 pub mod Naturals
 pub mod Numbers

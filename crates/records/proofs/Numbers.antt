@@ -1,4 +1,5 @@
 -- `all_natural`, `small_numbers` and `alike`: the numbers of a part put to a test. Assumes nothing.
+use Rattle.std.specs.Prelude.{None, Some}
 use mathlib.Core.Path.{◌≡◌, refl, sym, ◌∙◌}
 use mathlib.Core.Bool.{Bool, true, false, not, ◌&&◌, and-true}
 use mathlib.Core.List.{List}
@@ -12,12 +13,12 @@ use lib.IntN.{ℤ, pos, negsuc}
 use lib.ListN.{length, get_or, take}
 use lib.Seq.{length-take-le, get_or-take}
 use lib.Signed.{mag, lt_z, le_z, non_neg}
+use Rattle.std.specs.Ordering.{ord_min, int_cmp}
 use Rattle.rules.specs.Lists.{all}
 use Rattle.rules.specs.Buffers.{part}
 use Rattle.rules.specs.Layout.{alike}
 use Rattle.rules.proofs.Alike.{alike_test}
 use Rattle.rules.proofs.Same.{true_not_false}
-use Rattle.cells.specs.declared.Sign.TheVariants.{Natural, Negative}
 use Rattle.cells.specs.View.{view, Low, sign_of}
 use Rattle.cells.proofs.View.{view_get_or}
 use Rattle.cells.proofs.Signed.{held, back, natural_code}
@@ -32,11 +33,11 @@ use Rattle.tables.proofs.Passing.{Passed, none_passed, one_more, one_fails, all_
 -- ---- none is negative
 
 -- a natural number passes
-pub natural_passes : (z : ℤ) {m : ℕ} → sign_of z ≡ Natural m → non_neg z ≡ true
+pub natural_passes : (z : ℤ) {m : ℕ} → sign_of z ≡ Some m → non_neg z ≡ true
 natural_passes z e = rw (sign_natural z e)
 
 -- a negative one does not
-pub negative_fails : (z : ℤ) → sign_of z ≡ Negative → non_neg z ≡ false
+pub negative_fails : (z : ℤ) → sign_of z ≡ None → non_neg z ≡ false
 negative_fails z e = rw (sign_negative z e)
 
 -- so is it where it is tested against 0
@@ -100,7 +101,7 @@ module _ {n k : ℕ} {s : List ℤ} (p : NaturalUpTo n k s) (h : k < n) (m : mag
 module _ {n k : ℕ} {s : List ℤ} {least : ℤ} (p : LeastOf n k s least) where
   module _ {next : ℤ} (h : k < n) (m : mag (get_or s k (pos 0)) < 2 ^ 31) where
     -- the next number is less
-    pub least_falls : lt_z (held (get_or s k (pos 0))) least ≡ true → next ≡ held (get_or s k (pos 0)) → LeastOf n (k + 1) s next
+    least_falls : lt_z (held (get_or s k (pos 0))) least ≡ true → next ≡ held (get_or s k (pos 0)) → LeastOf n (k + 1) s next
     least_falls e f = record {
       upto = omega arith;
       room = p.room;
@@ -110,12 +111,21 @@ module _ {n k : ℕ} {s : List ℤ} {least : ℤ} (p : LeastOf n k s least) wher
     }
 
     -- it is not
-    pub least_stays : lt_z (held (get_or s k (pos 0))) least ≡ false → next ≡ least → LeastOf n (k + 1) s next
+    least_stays : lt_z (held (get_or s k (pos 0))) least ≡ false → next ≡ least → LeastOf n (k + 1) s next
     least_stays e f = record {
       upto = omega arith;
       room = p.room;
       so_far = rw f (⊎_elim (λ o. inl (o.0, natural_more o.1 h m (rw o.0 at e))) (λ o. inr o) p.so_far);
     }
+
+    -- the lesser of the two
+    pub least_of_two : next ≡ ord_min int_cmp least (held (get_or s k (pos 0))) → LeastOf n (k + 1) s next
+    least_of_two d = go (lt_z (held (get_or s k (pos 0))) least) (lt_z least (held (get_or s k (pos 0)))) refl refl
+      where
+        go : (less greater : Bool) → lt_z (held (get_or s k (pos 0))) least ≡ less → lt_z least (held (get_or s k (pos 0))) ≡ greater → LeastOf n (k + 1) s next
+        go true greater e f = least_falls e (d ∙ rw e)
+        go false true e f = least_stays e (d ∙ rw (e, f))
+        go false false e f = least_stays e (d ∙ rw (e, f))
 
   module _ (h : n ≤ k) where
     -- all are natural if the least is

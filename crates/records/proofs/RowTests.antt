@@ -1,4 +1,5 @@
 -- `rows_fit` and `small_deps`: the rows of a section put to a test. Assumes nothing.
+use Rattle.std.specs.Prelude.{None, Some}
 use mathlib.Core.Path.{◌≡◌, sym, ◌∙◌}
 use mathlib.Core.Bool.{Bool, true, false, not, and-true, and-false}
 use mathlib.Core.List.{List}
@@ -18,7 +19,6 @@ use Rattle.tables.proofs.Different.{increasing_differ}
 use Rattle.tables.proofs.Passing.{Passed, all_passed, rows_start, rows_more, rows_fail}
 use Rattle.axes.specs.Extents.{Extents}
 use Rattle.axes.specs.Numbers.{RowsInside}
-use Rattle.records.specs.declared.Fit.TheVariants.{Unfit, InOrder, Mixed}
 use Rattle.records.specs.Judging.{rows_below, rows_fit, fit_of, small, small_dep, small_deps}
 use Rattle.records.proofs.Fits.{unfit}
 
@@ -54,7 +54,7 @@ module _ (e : Entries) (w : ℕ) (s : List ℤ) {t : Bool} (p : t ≡ rows_below
   rows = rows_at e.first w e.count s
 
   -- a row is outside
-  pub row_outside : not t ≡ true → Unfit ≡ fit_of (rows_fit e w s) (increasing rows)
+  pub row_outside : not t ≡ true → None ≡ fit_of (rows_fit e w s) (increasing rows)
   unfolding rows_fit
   row_outside f = unfit _ (increasing rows) (sym (rw (← p, not-true t f) (and-false (distinct rows))))
 
@@ -70,18 +70,18 @@ module _ (e : Entries) (w : ℕ) (s : List ℤ) {t : Bool} (p : t ≡ rows_below
 
     module _ {u : Bool} (q : u ≡ increasing rows) where
       -- they increase
-      pub rows_increase_lem : u ≡ true → InOrder ≡ fit_of (rows_fit e w s) (increasing rows)
+      pub rows_increase_lem : u ≡ true → (Some true) ≡ fit_of (rows_fit e w s) (increasing rows)
       unfolding fit_of
       rows_increase_lem g = rw (fit_is, ← increasing_differ rows q g, ← q, g)
 
       module _ {v : Bool} (d : v ≡ distinct rows) where
         -- they are in no order
-        pub rows_mixed : u ≡ false → v ≡ true → Mixed ≡ fit_of (rows_fit e w s) (increasing rows)
+        pub rows_mixed : u ≡ false → v ≡ true → (Some false) ≡ fit_of (rows_fit e w s) (increasing rows)
         unfolding fit_of
         rows_mixed g h = rw (fit_is, ← d, h, ← q, g)
 
         -- two are the same
-        pub row_twice : v ≡ false → Unfit ≡ fit_of (rows_fit e w s) (increasing rows)
+        pub row_twice : v ≡ false → None ≡ fit_of (rows_fit e w s) (increasing rows)
         row_twice h = unfit _ (increasing rows) (sym (fit_is ∙ sym d ∙ h))
 
 pub ruleset fits = (row_outside, rows_inside, rows_increase_lem, rows_mixed, row_twice)

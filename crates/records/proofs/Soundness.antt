@@ -1,4 +1,5 @@
 -- A readable record is sound where the tests that are put to its slice hold. Assumes nothing.
+use Rattle.std.specs.Prelude.{None, Option}
 use mathlib.Core.Path.{◌≡◌, sym, ap, ◌∙◌}
 use mathlib.Core.Bool.{Bool, true, false, not, ◌&&◌, and_assoc, and-true}
 use mathlib.Core.List.{List}
@@ -20,8 +21,6 @@ use Rattle.cells.specs.View.{view}
 use Rattle.tables.specs.Rows.{row_at, rows_at}
 use Rattle.tables.proofs.Rows.{front_row}
 use Rattle.axes.specs.Extents.{Extents}
-use Rattle.records.specs.declared.Fit.{Fit}
-use Rattle.records.specs.declared.Fit.TheVariants.{Unfit}
 use Rattle.records.specs.Judging.{Readable, kind_fits, axes_fit, rows_fit, small_deps, fit_of, rows_increase}
 use Rattle.records.proofs.InTurn.{first_fails, first_holds, first_last}
 use Rattle.records.proofs.Fits.{unfit}
@@ -97,21 +96,21 @@ module _ {h : Head} {s : List ℤ} (p : Readable h s) where
 -- ---- one test after the other: `well_formed`
 
 -- what is found of the rows of a record, by whether it is well-formed
-abbrev found : Head → List ℤ → Fit
+abbrev found : Head → List ℤ → Option Bool
 found h s = fit_of (well_formed (layout_by h s)) (rows_increase h s)
 
 module _ {h : Head} {s : List ℤ} (p : Readable h s) {t₁ : Bool} (e₁ : t₁ ≡ kind_fits h.rows.count s) where
   -- a test fails
-  fails : false ≡ well_formed (layout_by h s) → Unfit ≡ found h s
+  fails : false ≡ well_formed (layout_by h s) → None ≡ found h s
   fails e = unfit (well_formed (layout_by h s)) (rows_increase h s) e
 
   -- the kind does not fit
-  pub kind_wrong : not t₁ ≡ true → Unfit ≡ found h s
+  pub kind_wrong : not t₁ ≡ true → None ≡ found h s
   kind_wrong f = fails (first_fails _ e₁ f ∙ sym (formed_in_turn p))
 
   module _ (f₁ : not t₁ ≡ false) {t₂ : Bool} (e₂ : t₂ ≡ axes_fit h.width s) where
     -- the axes do not fit the kind
-    pub axes_wrong : not t₂ ≡ true → Unfit ≡ found h s
+    pub axes_wrong : not t₂ ≡ true → None ≡ found h s
     axes_wrong f = fails (first_fails _ e₂ f ∙ sym (formed_in_turn p ∙ first_holds e₁ f₁))
 
     module _ (f₂ : not t₂ ≡ false) {t₃ : Bool} (e₃ : t₃ ≡ increasing (rows_at h.states.first (h.rank + 1) h.states.count s)) where
@@ -121,16 +120,16 @@ module _ {h : Head} {s : List ℤ} (p : Readable h s) {t₁ : Bool} (e₁ : t₁
       rest₃ = formed_in_turn p ∙ first_holds e₁ f₁ ∙ first_holds e₂ f₂
 
       -- the dependencies on states do not increase
-      pub states_wrong : not t₃ ≡ true → Unfit ≡ found h s
+      pub states_wrong : not t₃ ≡ true → None ≡ found h s
       states_wrong f = fails (first_fails _ e₃ f ∙ sym rest₃)
 
       module _ (f₃ : not t₃ ≡ false) {t₄ : Bool} (e₄ : t₄ ≡ increasing (rows_at h.inputs.first (h.rank + 1) h.inputs.count s)) where
         -- those on inputs do not
-        pub inputs_wrong : not t₄ ≡ true → Unfit ≡ found h s
+        pub inputs_wrong : not t₄ ≡ true → None ≡ found h s
         inputs_wrong f = fails (first_fails _ e₄ f ∙ sym (rest₃ ∙ first_holds e₃ f₃))
 
         -- the rows decide
-        pub well_formed_lem : {r : Fit} → not t₄ ≡ false → r ≡ fit_of (rows_fit h.rows h.width s) (rows_increase h s) → r ≡ found h s
+        pub well_formed_lem : {r : (Option Bool)} → not t₄ ≡ false → r ≡ fit_of (rows_fit h.rows h.width s) (rows_increase h s) → r ≡ found h s
         well_formed_lem f₄ e₅ = e₅ ∙ ap (λ (b : Bool). fit_of b (rows_increase h s)) (sym (rest₃ ∙ first_holds e₃ f₃ ∙ first_holds e₄ f₄))
 
 pub ruleset forms = (row_extents, kind_wrong, axes_wrong, states_wrong, inputs_wrong, well_formed_lem)

@@ -1,8 +1,8 @@
 -- The tests that make a record sound, as they are put to the numbers of its slice.
+use Rattle.std.specs.Prelude.{None, Option, Some}
 use Rattle.std.specs.Prelude.{◌≡◌, Bool, true, false, ◌&&◌, ◌||◌, List, ℕ, ◌+◌, eqb, leb, ℤ, get_or, take}
 use Rattle.rules.specs.declared.Entries.{Entries}
 use Rattle.rules.specs.declared.Head.{Head}
-use Rattle.rules.specs.declared.Walk.TheVariants.{To}
 use Rattle.rules.specs.Limits.{rank_limit, entry_limit, component_limit}
 use Rattle.rules.specs.Lists.{implies, all, all_below}
 use Rattle.rules.specs.Buffers.{part}
@@ -11,8 +11,6 @@ use Rattle.rules.specs.Layout.{alike, distinct}
 use Rattle.rules.specs.Record.{walk}
 use Rattle.cells.specs.View.{view, Low}
 use Rattle.tables.specs.Rows.{rows_at}
-use Rattle.records.specs.declared.Fit.{Fit}
-use Rattle.records.specs.declared.Fit.TheVariants.{Unfit, InOrder, Mixed}
 use Rattle.records.specs.Heads.{HeadOf}
 
 -- the rank and the counts are within their limits
@@ -28,7 +26,7 @@ pub record Readable (h : Head) (s : List ℤ) : Type 0 where
 
 -- a record that can be walked is readable
 abbrev pub ReadableRecord : List ℤ → Type 0
-ReadableRecord s = (h : Head) → walk s ≡ To h → Readable h s
+ReadableRecord s = (h : Head) → walk s ≡ Some h → Readable h s
 
 -- the kind is one of three, and sparse where there are rows
 unfoldable pub kind_fits : ℕ → List ℤ → Bool
@@ -66,14 +64,12 @@ rows_fit rows w s = distinct (rows_at rows.first w rows.count s) && rows_below r
 abbrev pub rows_increase : Head → List ℤ → Bool
 rows_increase h s = increasing (rows_at h.rows.first h.width h.rows.count s)
 
--- what is found, by whether the rows fit and whether they increase
-unfoldable pub fit_of : Bool → Bool → Fit
-fit_of false o = Unfit
-fit_of true true = InOrder
-fit_of true false = Mixed
+-- whether the rows increase, if they fit
+unfoldable pub fit_of : Bool → Bool → Option Bool
+fit_of true increase = Some increase
+fit_of false increase = None
 
 -- a record that fits is readable
-abbrev pub ReadableFit : Fit → Head → List ℤ → Type 0
-ReadableFit Unfit h s = Unit
-ReadableFit InOrder h s = Readable h s
-ReadableFit Mixed h s = Readable h s
+abbrev pub ReadableFit : Option Bool → Head → List ℤ → Type 0
+ReadableFit (Some increase) h s = Readable h s
+ReadableFit None h s = Unit

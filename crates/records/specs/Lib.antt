@@ -3,4 +3,3 @@ pub mod Heads
 pub mod Judging
 pub mod Sound
 pub mod EndToEnd
-pub mod Readers

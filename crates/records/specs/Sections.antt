@@ -1,8 +1,7 @@
 -- Where the entries of a section lie.
+use Rattle.std.specs.Prelude.{None, Option, Some}
 use Rattle.std.specs.Prelude.{◌≡◌, List, ℕ, ◌+◌, ◌*◌, ◌^◌, ◌<◌, ◌≤◌, ℤ, pos, length, get_or}
 use Rattle.rules.specs.declared.Entries.{Entries}
-use Rattle.rules.specs.declared.Section.{Section}
-use Rattle.rules.specs.declared.Section.TheVariants.{Whole, Cut}
 
 -- the entries of w numbers each, whose count stands at i, lie in the slice
 pub record Laid (i w : ℕ) (s : List ℤ) (e : Entries) : Type 0 where
@@ -13,6 +12,6 @@ pub record Laid (i w : ℕ) (s : List ℤ) (e : Entries) : Type 0 where
   pub room : e.next ≤ length s
 
 -- the same of a section that is whole, and that its count is a 32-bit number
-abbrev pub SectionIn : ℕ → ℕ → List ℤ → Section → Type 0
-SectionIn i w s (Whole e) = Laid i w s e × (e.count < 2 ^ 31)
-SectionIn i w s Cut = Unit
+abbrev pub SectionIn : ℕ → ℕ → List ℤ → Option Entries → Type 0
+SectionIn i w s (Some e) = Laid i w s e × (e.count < 2 ^ 31)
+SectionIn i w s None = Unit

@@ -2,16 +2,14 @@
 // a number of a record stands.
 #![tactic(auto)]
 
-mod reader; // reader.rt: a record with a place in it, read section by section
-
-ghost use Rattle.std.specs.Prelude.{◌≡◌, true, ◌+◌, ◌^◌, ◌<◌, ◌≤◌, length, take};
+ghost use Rattle.std.specs.Prelude.{Some};
+ghost use Rattle.std.specs.Prelude.{◌≡◌, true, ◌+◌, ◌^◌, ◌<◌, ◌≤◌, length, get_or, take};
 ghost use Rattle.std.specs.Int.Signed.{non_neg};
 ghost use Rattle.rules.specs.Lists.{all};
 ghost use Rattle.rules.specs.RowsInOrder.{increasing};
 ghost use Rattle.rules.specs.Buffers.{part};
-ghost use Rattle.rules.specs.Layout.{alike, well_formed, within_sizes};
+ghost use Rattle.rules.specs.Layout.{kind_of, alike, well_formed, within_sizes};
 ghost use Rattle.rules.specs.Record.{section_at, walk, layout_by, sound_from, sound, ordered, row_part, row_start, row, row_place};
-ghost use Rattle.rules.specs.declared.Walk.TheVariants.{To};
 ghost use Rattle.rules.specs.Arguments.{over_record};
 ghost use Rattle.cells.specs.View.{view, Low};
 ghost use Rattle.tables.specs.Rows.{rows_at, HasRow, HasRows};
@@ -22,23 +20,7 @@ ghost use Rattle.records.specs.Heads.{HeadOf};
 ghost use Rattle.records.specs.Judging.{Readable, few_entries, kind_fits, axes_fit, rows_fit, small, small_deps, fit_of, rows_increase, ReadableFit};
 ghost use Rattle.records.specs.Sound.{SoundRecord, sound_head, ReadableHead, Found};
 
-use cells::Sign;
-use rules::{Entries, Head, Section, Walk};
-
-// What judging rows finds: they do not fit, or they do and increase, or they do and stand in no order.
-#[derive(Clone, Copy)]
-enum Fit {
-    Unfit,
-    InOrder,
-    Mixed,
-}
-
-// What judging the record at the front of a slice finds: it is sound, with its head and whether its rows increase, or it is not.
-#[derive(Clone, Copy)]
-pub enum Finding {
-    Sound(Head, bool),
-    Unsound,
-}
+use rules::{Entries, Head, Kind};
 
 // Where a record has its kind.
 pub const KIND: usize = 0;
@@ -52,24 +34,34 @@ pub const RANK: usize = 2;
 // Where its extents begin.
 pub const EXTENTS: usize = 3;
 
+// The kind that the number at a place stands for.
+pub fn kind_at(s: &[i32], at: usize) -> Kind
+    requires { at < length s.now }
+    ensures { result ≡ kind_of (get_or (view s.now) at 0) }
+{
+    match cells::get(s, at) {
+        0 => Kind::Dense,
+        1 => Kind::Diagonal,
+        _ => Kind::Sparse,
+    }
+}
+
 // The section whose count stands at a place and whose entries have so many numbers each.
-pub fn section_at(s: &[i32], at: usize, width: usize) -> Section
+pub fn section_at(s: &[i32], at: usize, width: usize) -> Option<Entries>
     requires { width < 2 ^ 32 }
     ensures is { result ≡ section_at at width s.now }
     ensures lies { SectionIn at width s.now result }
 {
     if s.len() <= at {
-        return Section::Cut;
+        return None;
     }
-    let Sign::Natural(count) = cells::sign_at(s, at) else {
-        return Section::Cut;
-    };
+    let count = cells::sign_at(s, at)?;
     let first = at + 1;
     let size = count * width;
     if s.len() - first < size {
-        return Section::Cut;
+        return None;
     }
-    Section::Whole(Entries {
+    Some(Entries {
         count,
         first,
         next: first + size,
@@ -77,33 +69,18 @@ pub fn section_at(s: &[i32], at: usize, width: usize) -> Section
 }
 
 // The head of the record at the front of a slice, if the record can be walked to its end. Its first section stands behind two numbers.
-pub fn walk_record(s: &[i32]) -> Walk
+pub fn walk_record(s: &[i32]) -> Option<Head>
     ensures { result ≡ walk s.now }
 {
-    let front = Entries {
-        count: RANK,
-        first: KIND,
-        next: RANK,
-    };
-    let Section::Whole(extents) = reader::section_behind(s, front, 1) else {
-        return Walk::Broken;
-    };
+    let extents = section_at(s, RANK, 1)?;
     let rank = extents.count;
     let kind = s[KIND];
     let dense = s[DENSE];
-    let Sign::Natural(width) = cells::less_by(rank, dense) else {
-        return Walk::Broken;
-    };
-    let Section::Whole(rows) = reader::section_behind(s, extents, width) else {
-        return Walk::Broken;
-    };
-    let Section::Whole(states) = reader::section_behind(s, rows, rank + 1) else {
-        return Walk::Broken;
-    };
-    let Section::Whole(inputs) = reader::section_behind(s, states, rank + 1) else {
-        return Walk::Broken;
-    };
-    Walk::To(Head {
+    let width = cells::less_by(rank, dense)?;
+    let rows = section_at(s, extents.next, width)?;
+    let states = section_at(s, rows.next, rank + 1)?;
+    let inputs = section_at(s, states.next, rank + 1)?;
+    Some(Head {
         kind,
         dense,
         rank,
@@ -122,8 +99,8 @@ pub fn over_record(s: &[i32]) -> bool
         return false;
     }
     match cells::sign_at(s, RANK) {
-        Sign::Natural(rank) => rules::RANK_LIMIT < rank,
-        Sign::Negative => false,
+        Some(rank) => rules::RANK_LIMIT < rank,
+        None => false,
     }
 }
 
@@ -135,10 +112,7 @@ pub fn all_natural(s: &[i32], n: usize) -> bool
 {
     let mut least = 0;
     for k in 0..n {
-        let number = s[k];
-        if number < least {
-            least = number;
-        }
+        least = least.min(s[k]);
     }
     0 <= least
 }
@@ -207,7 +181,8 @@ fn few_entries(h: Head) -> bool
     inputs.count <= rules::ENTRY_LIMIT
 }
 
-// Whether the kind is one of the three, and sparse where there are rows.
+// Whether the kind is one of the three, and sparse where there are rows. The number itself is judged here and below, so it is not
+// read as a `Kind`.
 fn kind_fits(s: &[i32], count: usize) -> bool
     requires { 0 < length s.now }
     ensures { result ≡ kind_fits count s.now }
@@ -240,22 +215,22 @@ fn axes_fit(s: &[i32], width: usize) -> bool
     true
 }
 
-// Whether the components of the rows are below the extents and the rows differ from each other, and their order then.
-fn rows_fit(s: &[i32], rows: Entries, width: usize) -> Fit
+// Whether the rows increase, if their components are below the extents and the rows differ from each other.
+fn rows_fit(s: &[i32], rows: Entries, width: usize) -> Option<bool>
     requires has_rows { HasRows rows.first width rows.count s.now }
     requires extents { Extents 3 width s.now }
     ensures { result ≡ fit_of (rows_fit rows width s.now) (increasing (rows_at rows.first width rows.count s.now)) }
 {
     if !axes::rows_below(s, rows.first, rows.count, s, EXTENTS, width) {
-        return Fit::Unfit;
+        return None;
     }
     if tables::is_increasing(s, rows.first, rows.count, width) {
-        return Fit::InOrder;
+        return Some(true);
     }
     if axes::differ(s, rows.first, rows.count, s, EXTENTS, width) {
-        return Fit::Mixed;
+        return Some(false);
     }
-    Fit::Unfit
+    None
 }
 
 // Whether a readable record keeps the limits of size.
@@ -274,10 +249,10 @@ fn within_sizes(s: &[i32], h: Head) -> bool
     small_deps(s, inputs.first, inputs.count, h.rank)
 }
 
-// Whether a readable record that keeps the limits of size obeys the other rules of soundness, and the order of its rows then.
-fn well_formed(s: &[i32], h: Head) -> Fit
+// Whether the rows of a readable record that keeps the limits of size increase, if it obeys the other rules of soundness.
+fn well_formed(s: &[i32], h: Head) -> Option<bool>
     requires readable { Readable h s.now }
-    requires s_value { within_sizes (layout_by h s.now) ≡ true }
+    requires sizes_kept { within_sizes (layout_by h s.now) ≡ true }
     ensures { result ≡ fit_of (well_formed (layout_by h s.now)) (rows_increase h s.now) }
 {
     let rows = h.rows;
@@ -285,73 +260,62 @@ fn well_formed(s: &[i32], h: Head) -> Fit
     let inputs = h.inputs;
     let wide = h.rank + 1;
     if !kind_fits(s, rows.count) {
-        return Fit::Unfit;
+        return None;
     }
     if !axes_fit(s, h.width) {
-        return Fit::Unfit;
+        return None;
     }
     if !tables::is_increasing(s, states.first, states.count, wide) {
-        return Fit::Unfit;
+        return None;
     }
     if !tables::is_increasing(s, inputs.first, inputs.count, wide) {
-        return Fit::Unfit;
+        return None;
     }
     rows_fit(s, rows, h.width)
 }
 
-// Whether a walked record is sound, and the order of its rows then; it is readable then, too. The counts are tested first, so that no later test
-// takes long.
-fn sound_by(s: &[i32], h: Head) -> Fit
+// Whether the rows of a walked record increase, if it is sound; it is readable then, too. The counts are tested first, so that no
+// later test takes long.
+fn sound_by(s: &[i32], h: Head) -> Option<bool>
     requires { HeadOf h s.now }
-    ensures is { result ≡ fit_of (sound_from (To h) s.now) (rows_increase h s.now) }
+    ensures is { result ≡ fit_of (sound_from (Some h) s.now) (rows_increase h s.now) }
     ensures readable { ReadableFit result h s.now }
 {
     if !few_entries(h) {
-        return Fit::Unfit;
+        return None;
     }
     let inputs = h.inputs;
     if !all_natural(s, inputs.next) {
-        return Fit::Unfit;
+        return None;
     }
     if !within_sizes(s, h) {
-        return Fit::Unfit;
+        return None;
     }
     well_formed(s, h)
 }
 
-// What the record at the front of a slice is found to be.
-pub fn judged(s: &[i32]) -> Finding
+// The head of the record at the front of a slice and whether its rows increase, if the record is sound.
+pub fn judged(s: &[i32]) -> Option<(Head, bool)>
     ensures { Found result s.now }
 {
-    let Walk::To(h) = walk_record(s) else {
-        return Finding::Unsound;
-    };
-    match sound_by(s, h) {
-        Fit::Unfit => Finding::Unsound,
-        Fit::InOrder => Finding::Sound(h, true),
-        Fit::Mixed => Finding::Sound(h, false),
-    }
+    let head = walk_record(s)?;
+    let increase = sound_by(s, head)?;
+    Some((head, increase))
 }
 
 // The head of the record at the front of a slice, if the record is sound; it is readable then.
-pub fn sound_head(s: &[i32]) -> Walk
+pub fn sound_head(s: &[i32]) -> Option<Head>
     ensures is { result ≡ sound_head s.now }
     ensures readable { ReadableHead result s.now }
 {
-    match judged(s) {
-        Finding::Sound(h, _) => Walk::To(h),
-        Finding::Unsound => Walk::Broken,
-    }
+    judged(s).map(|(head, _)| head)
 }
 
 // Whether the record at the front of a slice is sound.
 pub fn sound(s: &[i32]) -> bool
     ensures { result ≡ sound s.now }
 {
-    match judged(s) {
-        Finding::Sound(_, _) => true,
-        Finding::Unsound => false,
-    }
+    judged(s).is_some()
 }
 
 // Whether the rows of a sound record increase.
@@ -367,17 +331,14 @@ pub fn rows_ordered(s: &[i32], h: Head) -> bool
 pub fn ordered(s: &[i32]) -> bool
     ensures { result ≡ ordered s.now }
 {
-    match judged(s) {
-        Finding::Sound(_, increase) => increase,
-        Finding::Unsound => false,
-    }
+    matches!(judged(s), Some((_, true)))
 }
 
 // Row i of a readable record, as the part of the slice that it is; an empty part if there is none.
 fn row_of(s: &[i32], h: Head, i: usize) -> &[i32]
     requires { Readable h s.now }
-    ensures is { result.now ≡ row_part i (To h) s.now }
-    ensures place { BeginsAt (row_start i (To h)) s.entry result }
+    ensures is { result.now ≡ row_part i (Some h) s.now }
+    ensures place { BeginsAt (row_start i (Some h)) s.entry result }
 {
     let rows = h.rows;
     if rows.count <= i {
@@ -394,10 +355,10 @@ pub fn row(s: &[i32], n: i32) -> &[i32]
     ensures is { result.now ≡ row s.now n }
     ensures place { BeginsAt (row_place s.now n) s.entry result }
 {
-    let Walk::To(h) = sound_head(s) else {
+    let Some(h) = sound_head(s) else {
         return &s[0..0];
     };
-    let Sign::Natural(i) = cells::sign_of(n) else {
+    let Some(i) = cells::sign_of(n) else {
         return &s[0..0];
     };
     row_of(s, h, i)

@@ -1,114 +1,122 @@
-// The arguments in the numbers of a request: its operation, then numbers, and slices, each behind its length.
-ghost use Rattle.std.specs.Prelude.{◌≤◌};
+// The numbers of a request: its operation, then the arguments that the operation has, each a number or a slice behind its length.
+ghost use Rattle.std.specs.Prelude.{◌<◌, ◌≤◌};
 
-use cells::Sign;
+// Why a line is answered without a call: it is too long, it is no request, or its operation is none of the table.
+#[derive(Clone, Copy)]
+pub enum Fault {
+    Long,
+    Bad,
+    Unknown,
+}
 
-// The arguments of each operation of the table: a slice S, a number n, none; an operation that is none of it has an argument that
-// no request has.
-pub fn form(operation: i32) -> [u8; 6] {
+impl Fault {
+    // What is answered.
+    pub fn text(self) -> &'static [u8] {
+        match self {
+            Fault::Long => b"long",
+            Fault::Bad => b"bad request",
+            Fault::Unknown => b"unknown",
+        }
+    }
+}
+
+// What an argument is: a number, or a slice behind its length.
+#[derive(Clone, Copy)]
+enum Argument {
+    N,
+    S,
+}
+
+use Argument::{N, S};
+
+// The arguments of each operation of the table, numbers N and slices S; nothing for an operation that is none of it.
+fn form(operation: i32) -> Option<&'static [Argument]> {
     match operation {
-        1 | 12 | 15 | 16 | 18 | 31 => *b"Sn    ",
-        2 | 3 | 5 | 7 | 10 | 11 => *b"SS    ",
-        4 => *b"nS    ",
-        8 | 9 | 29 | 30 => *b"S     ",
-        13 => *b"nn    ",
-        14 => *b"n     ",
-        17 | 35 => *b"SnSn  ",
-        19 | 22 | 23 | 25 => *b"SSnn  ",
-        20 => *b"Snnn  ",
-        24 => *b"Snn   ",
-        26 | 27 | 33 => *b"Snnnn ",
-        28 => *b"SSnnnn",
-        32 => *b"SSnnn ",
-        34 => *b"Snnnnn",
-        _ => *b"?     ",
+        1 | 12 | 15 | 16 | 18 | 31 => Some(&[S, N]),
+        2 | 3 | 5 | 7 | 10 | 11 => Some(&[S, S]),
+        4 => Some(&[N, S]),
+        8 | 9 | 29 | 30 => Some(&[S]),
+        13 => Some(&[N, N]),
+        14 => Some(&[N]),
+        17 | 35 => Some(&[S, N, S, N]),
+        19 | 22 | 23 | 25 => Some(&[S, S, N, N]),
+        20 => Some(&[S, N, N, N]),
+        24 => Some(&[S, N, N]),
+        26 | 27 | 33 => Some(&[S, N, N, N, N]),
+        28 => Some(&[S, S, N, N, N, N]),
+        32 => Some(&[S, S, N, N, N]),
+        34 => Some(&[S, N, N, N, N, N]),
+        _ => None,
     }
 }
 
-// Where the arguments of a form stand, and then the place behind them: it is the request's length if the request has that form.
-pub fn places(request: &[i32], form: [u8; 6]) -> [usize; 7] {
-    let mut at = [1usize; 7];
-    let mut k = 0;
-    while k < 6 {
-        at[k + 1] = behind(request, at[k], form[k]);
-        k += 1;
+// The argument at the front of numbers, a number or those of a slice, and the numbers behind it; nothing where it is not there.
+fn split(kind: Argument, numbers: &[i32]) -> Option<(&[i32], &[i32])> {
+    match kind {
+        N => numbers.split_at_checked(1),
+        S => {
+            let (length, rest) = numbers.split_first()?;
+            rest.split_at_checked(cells::sign_of(*length)?)
+        }
     }
-    at
 }
 
-// The place behind an argument, or behind the place behind all numbers if it is not there.
-fn behind(request: &[i32], at: usize, kind: u8) -> usize {
-    if kind == b' ' {
-        return at;
-    }
-    let most = request.len();
-    if most <= at {
-        return most + 1;
-    }
-    if kind == b'n' {
-        return at + 1;
-    }
-    let Sign::Natural(count) = cells::sign_at(request, at) else {
-        return most + 1;
-    };
-    if kind != b'S' {
-        return most + 1;
-    }
-    if most - at <= count {
-        return most + 1;
-    }
-    at + 1 + count
+// A request that has the form of its operation.
+#[derive(Clone, Copy)]
+pub struct Request<'a> {
+    operation: i32,
+    arguments: [&'a [i32]; 6],
+    numbers: &'a [i32],
 }
 
-// The first n numbers, or none if there are fewer.
-pub fn first(n: usize, numbers: &[i32]) -> &[i32] {
-    if numbers.len() < n {
-        return &numbers[0..0];
+impl<'a> Request<'a> {
+    // The request that numbers are: an operation of the table, its arguments, and nothing else.
+    pub fn new(numbers: &'a [i32]) -> Result<Request<'a>, Fault> {
+        let (operation, behind) = numbers.split_first().ok_or(Fault::Bad)?;
+        let form = form(*operation).ok_or(Fault::Unknown)?;
+        let mut arguments = [&numbers[..0]; 6];
+        let mut rest = behind;
+        for (argument, kind) in arguments.iter_mut().zip(form) {
+            let (front, more) = split(*kind, rest).ok_or(Fault::Bad)?;
+            *argument = front;
+            rest = more;
+        }
+        if rest.is_empty() {
+            Ok(Request {
+                operation: *operation,
+                arguments,
+                numbers,
+            })
+        } else {
+            Err(Fault::Bad)
+        }
     }
-    &numbers[0..n]
-}
 
-// The numbers of the slice at a place.
-pub fn list(request: &[i32], at: usize) -> &[i32] {
-    let to = behind(request, at, b'S');
-    if request.len() < to {
-        return &request[0..0];
+    // What is asked for.
+    pub fn operation(&self) -> i32 {
+        self.operation
     }
-    if to <= at {
-        return &request[0..0];
-    }
-    let from = at + 1;
-    &request[from..to]
-}
 
-// The number at a place.
-pub fn number(request: &[i32], at: usize) -> i32 {
-    if at < request.len() {
-        return request[at];
+    // Argument k where it is a slice; an empty one where there is none.
+    pub fn list(&self, k: usize) -> &'a [i32] {
+        self.arguments.get(k).copied().unwrap_or(&[])
     }
-    0
-}
 
-// The number at a place as a byte; 0 where it is none.
-pub fn byte(request: &[i32], at: usize) -> u8 {
-    let Sign::Natural(n) = cells::sign_of(number(request, at)) else {
-        return 0;
-    };
-    if 255 < n {
-        return 0;
+    // Argument k where it is a number; 0 where there is none.
+    pub fn number(&self, k: usize) -> i32 {
+        self.list(k).first().copied().unwrap_or(0)
     }
-    n as u8
-}
 
-// The length that a request asks for at a place counted from its end, for a buffer that has room for so many.
-pub fn length(request: &[i32], from_end: usize, most: usize) -> usize
-    ensures { result ≤ most }
-{
-    if request.len() < from_end {
-        return 0;
+    // Argument k as a byte; 0 where it is none.
+    pub fn byte(&self, k: usize) -> u8 {
+        u8::try_from(self.number(k)).unwrap_or(0)
     }
-    match cells::sign_of(number(request, request.len() - from_end)) {
-        Sign::Natural(asked) => if asked < most { asked } else { most },
-        Sign::Negative => 0,
+
+    // The length that the k-th number from the end asks for, the last one being 0, for a buffer that has room for so many.
+    pub fn length(&self, k: usize, most: usize) -> usize
+        ensures { result ≤ most }
+    {
+        let asked = self.numbers.iter().rev().nth(k).copied().unwrap_or(0);
+        cells::sign_of(asked).unwrap_or(0).min(most)
     }
 }

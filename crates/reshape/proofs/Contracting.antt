@@ -1,4 +1,5 @@
 -- `contract_into`: each arm writes the front of the contracted layout, and its dependencies are shortened. Assumes nothing.
+use Rattle.std.specs.Prelude.{Err, Ok}
 use mathlib.Core.Path.{◌≡◌, refl, sym, ap, ◌∙◌}
 use mathlib.Core.List.{List, [], map}
 use mathlib.Core.Logic.{inl}
@@ -10,7 +11,6 @@ use lib.ListN.{length, get_or, set, take, drop, length-take, length-set}
 use lib.Seq.{take-take}
 use Rattle.rules.specs.declared.Head.{Head}
 use Rattle.rules.specs.declared.Refusal.TheVariants.{ScalarContracted}
-use Rattle.rules.specs.declared.Step.TheVariants.{Done, Refused}
 use Rattle.rules.specs.Limits.{product_limit}
 use Rattle.rules.specs.Lists.{product}
 use Rattle.rules.specs.RowsInOrder.{sorted, Each}
@@ -230,7 +230,7 @@ pub few_axes : {h : Head} {s : List ℤ} → SoundRecord h s → (h.rank ≡ 0 �
 few_axes r d = (omega arith, (lies r).rank_few)
 
 -- one that has none
-pub scalar_says : {h : Head} {s t : List ℤ} → SoundRecord h s → h.rank ≡ 0 → Says (contract_last_axis (layout_in s)) 0 t (Refused ScalarContracted)
+pub scalar_says : {h : Head} {s t : List ℤ} → SoundRecord h s → h.rank ≡ 0 → Says (contract_last_axis (layout_in s)) 0 t (Err ScalarContracted)
 unfolding number_of
 scalar_says r e = says_refused ScalarContracted 0 _ (contract_scalar _ (rank_shown r ∙ e))
 
@@ -254,7 +254,7 @@ module _ {h : Head} {s t u v : List ℤ} (q : SumAsked h s t) (f : FrontMade (co
       (rw (same.states_are, ← sizes form.states_fit.lengths, ← rank_is) d.states)
       (rw (same.inputs_are, ← sizes form.inputs_fit.lengths, ← rank_is) d.inputs)
 
-  pub contracted_says : Says (contract_last_axis (layout_in s)) 0 v Done
+  pub contracted_says : Says (contract_last_axis (layout_in s)) 0 v (Ok tt)
   contracted_says =
       let sound = layout_sound q.sound in
       let axis : 0 < rank (layout_in s) = omega (arith, rank_shown q.sound, q.axis) in

@@ -1,11 +1,13 @@
 -- `moves_of`: the entries from k on are walked. Assumes nothing.
+use Rattle.std.specs.Prelude.{None, Option, Some}
 use mathlib.Core.Path.{◌≡◌, refl, sym, ap, ◌∙◌}
 use mathlib.Core.Bool.{Bool, true, false, not, ◌&&◌, ◌||◌, and-false}
 use mathlib.Core.List.{List, [], ◌∷◌}
-use Prim.Native.Nat.{ℕ, zero, suc, ◌-◌, ◌<◌, ◌≤◌}
+use Prim.Native.Nat.{ℕ, zero, suc, max, ◌-◌, ◌<◌, ◌≤◌}
 use native.Mathlib.Omega.{arith}
 use borrow.Author.Tests.{lt-ltb, le-ltb, lt-leb, le-leb, eq-eqb, ne_eqb}
 use lib.Dec.{eqb, ltb}
+use Rattle.std.proofs.lemmas.Bool.Decides.{nat_tests}
 use lib.IntN.{ℤ, pos, negsuc}
 use lib.ListN.{length, get_or, set, drop, replicate, length-set, drop_of_length-le, get_or-eq_default}
 use lib.Seq.{drop-cons, drop-length, get_or-set_same, get_or-set_other}
@@ -14,9 +16,6 @@ use Rattle.rules.specs.Record.{natural, naturals}
 use Rattle.rules.specs.Arguments.{up_to}
 use Rattle.rules.specs.Permute.{repeats, moved_to}
 use Rattle.rules.proofs.Order.{ComparedNumbers, under, even, above, compare_numbers}
-use Rattle.rules.proofs.Same.{true_not_false}
-use Rattle.cells.specs.declared.Sign.{Sign}
-use Rattle.cells.specs.declared.Sign.TheVariants.{Natural, Negative}
 use Rattle.cells.specs.View.{sign_of}
 use Rattle.records.proofs.Sections.{sign_natural}
 use Rattle.reshape.specs.Permuting.{names_axes, MovesAre}
@@ -79,7 +78,7 @@ walk_start {entries} h =
     }
 
 -- a negative number names no axis
-sign_negative : (z : ℤ) → sign_of z ≡ Negative → up_to 3 z ≡ false
+sign_negative : (z : ℤ) → sign_of z ≡ None → up_to 3 z ≡ false
 unfolding sign_of up_to
 sign_negative (pos m) e = absurd (let y : ◌≡◌ {A = ℕ} 0 1 = cc in omega arith)
 sign_negative (negsuc m) e = refl
@@ -96,49 +95,44 @@ either_way false n = refl
 
 module _ {entries : List ℤ} {places : List ℕ} {most k : ℕ} (p : Walked entries places most k) where
   -- all entries
-  pub walk_done : k ≤ 0 → MovesAre entries true most places
+  pub walk_done : k ≤ 0 → MovesAre entries most places
   walk_done h =
       let none : k ≡ 0 = omega arith in
       record {
-        named_is = sym (rw none at p.named);
-        largest_is = λ _. rw none at p.most_is;
-        size = λ _. p.size;
-        moves = λ _ a l missing numbers m. rw none at (p.moves a l missing numbers m);
+        named = rw none at p.named;
+        largest_is = rw none at p.most_is;
+        size = p.size;
+        moves = λ a l missing numbers m. rw none at (p.moves a l missing numbers m);
       }
 
-  module _ (h : 0 < k) {g : Sign} (e : g ≡ sign_of (get_or entries (k - 1) (pos 0))) where
+  module _ (h : 0 < k) {g : (Option ℕ)} (e : g ≡ sign_of (get_or entries (k - 1) (pos 0))) where
     next : drop (k - 1) entries ≡ get_or entries (k - 1) (pos 0) ∷ drop k entries
     next =
         let one : suc (k - 1) ≡ k = omega arith in
         rw one at (drop-cons entries (k - 1) (pos 0) (omega (arith, p.upto)))
 
-    unnamed : {n : ℕ} {l : List ℕ} → names_axes (drop (k - 1) entries) ≡ false → MovesAre entries false n l
-    unnamed f = record {
-      named_is = sym (drop_unnamed (k - 1) entries f);
-      largest_is = λ z. absurd (true_not_false z refl);
-      size = λ z. absurd (true_not_false z refl);
-      moves = λ z. absurd (true_not_false z refl);
-    }
+    unnamed : names_axes (drop (k - 1) entries) ≡ false → names_axes entries ≡ false
+    unnamed f = drop_unnamed (k - 1) entries f
 
     -- a negative one
-    pub walk_negative : {n : ℕ} {l : List ℕ} → g ≡ Negative → MovesAre entries false n l
+    pub walk_negative : g ≡ None → names_axes entries ≡ false
     walk_negative f =
         let bad : up_to 3 (get_or entries (k - 1) (pos 0)) ≡ false = sign_negative (get_or entries (k - 1) (pos 0)) (sym e ∙ f) in
         unnamed (rw (next, named_more (get_or entries (k - 1) (pos 0)) (drop k entries), bad) refl)
 
-    module _ {axis : ℕ} (f : g ≡ Natural axis) where
+    module _ {axis : ℕ} (f : g ≡ Some axis) where
       is : drop (k - 1) entries ≡ pos axis ∷ drop k entries
       is = let number : get_or entries (k - 1) (pos 0) ≡ pos axis = sign_natural (get_or entries (k - 1) (pos 0)) (sym e ∙ f) in rw (next, number) refl
 
       -- one over 3
-      pub walk_over : {n : ℕ} {l : List ℕ} → 3 < axis → MovesAre entries false n l
+      pub walk_over : 3 < axis → names_axes entries ≡ false
       walk_over o =
           let bad : up_to 3 (pos axis) ≡ false = unfold up_to in lt-leb axis 3 o in
           unnamed (rw (is, named_more (pos axis) (drop k entries), bad) refl)
 
       module _ (small : axis ≤ 3) where
         -- one that stands there again
-        pub walk_twice : {n : ℕ} {l : List ℕ} → get_or places axis 0 < 5 → MovesAre entries false n l
+        pub walk_twice : get_or places axis 0 < 5 → names_axes entries ≡ false
         unfolding natural
         walk_twice o =
             let again : any (eqb axis) (naturals (drop k entries)) ≡ true = sym (p.seen axis small) ∙ lt-ltb (get_or places axis 0) 5 o in
@@ -211,7 +205,7 @@ module _ {entries : List ℤ} {places : List ℕ} {most k : ℕ} (p : Walked ent
             by_moves a l missing numbers m (above d) = moves_other a l missing numbers m (λ z. omega arith)
 
         -- with the larger of two as it was told
-        pub walk_turned : {n : ℕ} → n ≡ larger axis most → 5 ≤ get_or places axis 0 → Walked entries (set places axis (k - 1)) n (k - 1)
-        walk_turned is-larger o = rw is-larger (walk_turn o)
+        pub walk_turned : {n : ℕ} → n ≡ max axis most → 5 ≤ get_or places axis 0 → Walked entries (set places axis (k - 1)) n (k - 1)
+        walk_turned {n = n} told o = let same : n ≡ larger axis most = grind (arith, nat_tests) in rw same (walk_turn o)
 
 pub ruleset walks = (walk_start, walk_done)

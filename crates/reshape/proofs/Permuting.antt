@@ -1,4 +1,5 @@
 -- `permute_into`: each arm writes the front of the permuted layout, and its dependencies are moved. Assumes nothing.
+use Rattle.std.specs.Prelude.{Err, Ok, Result, ⊤}
 use mathlib.Core.Path.{◌≡◌, refl, sym, ap, ◌∙◌, subst}
 use mathlib.Core.Bool.{Bool, true, false, not, ◌&&◌, and-false}
 use mathlib.Core.List.{List, [], ◌∷◌, ◌++◌, map}
@@ -13,7 +14,6 @@ use lib.ListN.{length, get_or, set, take, drop, length-take, length-set, length-
 use lib.Seq.{get_or-take, get_or-drop, get_or-set_same, get_or-set_other, get_or-append-add, take-take, length-take-le, ext_get_or}
 use Rattle.rules.specs.declared.Head.{Head}
 use Rattle.rules.specs.declared.Refusal.TheVariants.{MadeUnsound, DenseAxes, NoPermutation}
-use Rattle.rules.specs.declared.Step.TheVariants.{Done, Refused}
 use Rattle.rules.specs.Lists.{if, largest, all, none}
 use Rattle.rules.specs.RowsInOrder.{sorted, Each}
 use Rattle.rules.specs.Buffers.{part}
@@ -37,7 +37,6 @@ use Rattle.moving.specs.Picking.{picked, DepsPicked}
 use Rattle.moving.proofs.Picking.{picked_length, picked_at}
 use Rattle.moving.proofs.Shortening.{map_alike}
 use Rattle.rules.specs.declared.Refusal.{Refusal}
-use Rattle.rules.specs.declared.Step.{Step}
 use Rattle.rules.specs.Arguments.{up_to}
 use Rattle.rules.specs.CountsAndForms.{min_rank, min_rank_of}
 use Rattle.rules.proofs.Given.{permute_sound, permute_low}
@@ -178,7 +177,7 @@ module _ {h : Head} {most : ℕ} {s t : List ℤ} (q : MoveAsked h most s t) whe
 
       -- dense
       pub dense_moved : {u v : List ℤ} → l.kind ≡ 0 → u ≡ set t rows_from (pos 0) → HeadMade 0 (most + 1) (view (take (most + 1) ext)) u v →
-          FrontSays (permute l entries) (permuted l (naturals entries)) t v Done
+          FrontSays (permute l entries) (permuted l (naturals entries)) t v (Ok tt)
       unfolding permuted
       dense_moved k stored m = (
         bare_front (rw (k, moved_size) (omega (arith, q.small))) q.room (head_same (sym k) (rw (k, p.largest_is) (add-one (largest (naturals entries)))) lent_moved m) stored
@@ -211,7 +210,7 @@ module _ {h : Head} {most : ℕ} {s t : List ℤ} (q : MoveAsked h most s t) whe
 
           -- that stays one
           pub diagonal_moved : {u v : List ℤ} → not b ≡ false → u ≡ set t rows_from (pos 0) → HeadMade 1 (h.rank - h.width) (view (take (most + 1) ext)) u v →
-              FrontSays (permute l entries) (permuted l (naturals entries)) t v Done
+              FrontSays (permute l entries) (permuted l (naturals entries)) t v (Ok tt)
           unfolding permuted
           diagonal_moved g stored m = (
             bare_front (rw (k, moved_size) (omega (arith, q.small))) q.room (head_same (sym k) (rw k dense_is) lent_moved m) stored
@@ -229,7 +228,7 @@ module _ {h : Head} {most : ℕ} {s t : List ℤ} (q : MoveAsked h most s t) whe
         -- without
         pub sparse_moved : {u v : List ℤ} → h.rank - h.width ≤ 0 →
             TableMade rows_from (most + 1) (map (picked 0 (take (most + 1) places)) (rows_at h.rows.first h.width h.rows.count s)) t u →
-            HeadMade 2 0 (view (take (most + 1) ext)) u v → FrontSays (permute l entries) (permuted l (naturals entries)) t v Done
+            HeadMade 2 0 (view (take (most + 1) ext)) u v → FrontSays (permute l entries) (permuted l (naturals entries)) t v (Ok tt)
         unfolding permuted
         sparse_moved {u} {v} g rows m =
             let none : l.dense ≡ 0 = omega (arith, dense_is) in
@@ -267,16 +266,16 @@ front_length n ext h five = sym (length-take-le n ext (omega arith))
 
 -- ---- the whole
 
-module _ {h : Head} {most : ℕ} {s t : List ℤ} (q : MoveAsked h most s t) (places : List ℕ) (u : List ℤ) (r : Step) (f : FrontMoved most places (layout_in s) t u r) where
-  said : (entries : List ℤ) → Permutes (layout_in s) entries most places → {r' : Step} → r ≡ r' → FrontSays (permute (layout_in s) entries) (permuted (layout_in s) (naturals entries)) t u r'
+module _ {h : Head} {most : ℕ} {s t : List ℤ} (q : MoveAsked h most s t) (places : List ℕ) (u : List ℤ) (r : Result ⊤ Refusal) (f : FrontMoved most places (layout_in s) t u r) where
+  said : (entries : List ℤ) → Permutes (layout_in s) entries most places → {r' : (Result ⊤ Refusal)} → r ≡ r' → FrontSays (permute (layout_in s) entries) (permuted (layout_in s) (naturals entries)) t u r'
   said entries p e = subst (FrontSays (permute (layout_in s) entries) (permuted (layout_in s) (naturals entries)) t u) e (f entries p)
 
   -- refused
-  pub axes_refused : {why : Refusal} → r ≡ Refused why → AxesMoved most places (layout_in s) u (Refused why)
+  pub axes_refused : {why : Refusal} → r ≡ Err why → AxesMoved most places (layout_in s) u (Err why)
   axes_refused {why} e entries p = says_refused why 0 _ (said entries p e)
 
   -- or made, with its dependencies
-  pub axes_moved : {v : List ℤ} → r ≡ Done → DepsPicked (take (most + 2) (set places (most + 1) h.rank)) (most + 2) (layout_in s) u v → AxesMoved most places (layout_in s) v Done
+  pub axes_moved : {v : List ℤ} → r ≡ Ok tt → DepsPicked (take (most + 2) (set places (most + 1) h.rank)) (most + 2) (layout_in s) u v → AxesMoved most places (layout_in s) v (Ok tt)
   unfolding permuted
   axes_moved {v} e d entries p =
       let g = said entries p e in
@@ -321,12 +320,12 @@ module _ {h : Head} {s : List ℤ} (r : SoundRecord h s) (entries : List ℤ) wh
   unfolding is_permutation names_axes
   permutation_is = all_four (not (ltb (rank (layout_in s)) (length entries))) (not (ltb (length entries) (min_rank (layout_in s)))) (all (up_to 3) entries) (not (repeats (naturals entries)))
 
-  unusable_says : {t : List ℤ} → is_permutation (layout_in s) entries ≡ false → Says (permute (layout_in s) entries) 0 t (Refused NoPermutation)
+  unusable_says : {t : List ℤ} → is_permutation (layout_in s) entries ≡ false → Says (permute (layout_in s) entries) 0 t (Err NoPermutation)
   unfolding number_of
   unusable_says e = says_refused NoPermutation 0 _ (permute_unusable (layout_in s) entries e)
 
   -- more entries than axes
-  pub too_many : {t : List ℤ} → h.rank < length entries → Says (permute (layout_in s) entries) 0 t (Refused NoPermutation)
+  pub too_many : {t : List ℤ} → h.rank < length entries → Says (permute (layout_in s) entries) 0 t (Err NoPermutation)
   too_many g = unusable_says (permutation_is ∙ rw (lt-ltb (rank (layout_in s)) (length entries) (omega (arith, rank_shown r))) refl)
 
   module _ (most-entries : length entries ≤ h.rank) {n : ℕ} (n-is : n ≡ min_rank_of (shape_in (take (length s - 2) (drop 2 s)))) where
@@ -334,38 +333,35 @@ module _ {h : Head} {s : List ℤ} (r : SoundRecord h s) (entries : List ℤ) wh
     min_is = n-is ∙ ap min_rank_of (lent_shape r)
 
     -- fewer than `min_rank`
-    pub too_few : {t : List ℤ} → length entries < n → Says (permute (layout_in s) entries) 0 t (Refused NoPermutation)
+    pub too_few : {t : List ℤ} → length entries < n → Says (permute (layout_in s) entries) 0 t (Err NoPermutation)
     too_few g =
         unusable_says
         (permutation_is ∙ rw (lt-ltb (length entries) (min_rank (layout_in s)) (omega (arith, min_is)), and-false (not (ltb (rank (layout_in s)) (length entries)))) refl)
 
-    module _ (enough : n ≤ length entries) {named : Bool} {most : ℕ} {places : List ℕ} (m : MovesAre entries named most places) where
+    module _ (enough : n ≤ length entries) where
       -- an entry that names no axis, or one twice
-      pub unnamed_says : {t : List ℤ} → not named ≡ true → Says (permute (layout_in s) entries) 0 t (Refused NoPermutation)
-      unnamed_says g = unusable_says (permutation_is ∙ rw (← m.named_is, not-true named g) (and-false (not (ltb (rank (layout_in s)) (length entries)) && not (ltb (length entries) (min_rank (layout_in s))))))
+      pub unnamed_says : {t : List ℤ} → names_axes entries ≡ false → Says (permute (layout_in s) entries) 0 t (Err NoPermutation)
+      unnamed_says g = unusable_says (permutation_is ∙ rw g (and-false (not (ltb (rank (layout_in s)) (length entries)) && not (ltb (length entries) (min_rank (layout_in s))))))
 
-      module _ (g : not named ≡ false) where
-        is_named : named ≡ true
-        is_named = not-false named g
-
+      module _ {most : ℕ} {places : List ℕ} (m : MovesAre entries most places) where
         usable : is_permutation (layout_in s) entries ≡ true
         usable =
             permutation_is
-            ∙ rw (le-ltb (rank (layout_in s)) (length entries) (omega (arith, rank_shown r)), le-ltb (length entries) (min_rank (layout_in s)) (omega (arith, min_is)), ← m.named_is) is_named
+            ∙ rw (le-ltb (rank (layout_in s)) (length entries) (omega (arith, rank_shown r)), le-ltb (length entries) (min_rank (layout_in s)) (omega (arith, min_is)), m.named)
 
         -- none: a copy
-        pub empty_says : {t : List ℤ} → length entries ≡ 0 → Loaded s t → Says (permute (layout_in s) entries) 0 t Done
+        pub empty_says : {t : List ℤ} → length entries ≡ 0 → Loaded s t → Says (permute (layout_in s) entries) 0 t (Ok tt)
         empty_says z d = says_made (permute_empty (layout_in s) entries usable (none_empty entries z)) d.layout (layout_sound r) (deps_low r) (omega (arith, d.holds.inside))
 
         -- some: the axes are moved
         pub ask_move : {t : List ℤ} → part_size ≤ length t → MoveAsked h most s t
-        ask_move room = record { sound = r; small = omega (arith, m.largest_is is_named, (usable_true (layout_in s) entries usable).small); room = room }
+        ask_move room = record { sound = r; small = omega (arith, m.largest_is, (usable_true (layout_in s) entries usable).small); room = room }
 
         pub permutes : (length entries ≡ 0 → ⊥) → Permutes (layout_in s) entries most places
         permutes d = record {
           usable = usable;
           some = some_entries entries d;
-          largest_is = m.largest_is is_named;
-          size = m.size is_named;
-          moves = m.moves is_named;
+          largest_is = m.largest_is;
+          size = m.size;
+          moves = m.moves;
         }

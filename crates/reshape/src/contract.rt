@@ -7,7 +7,7 @@ ghost use Rattle.parts.specs.Parts.{part_size};
 ghost use Rattle.parts.specs.Answers.{Says};
 ghost use Rattle.reshape.specs.Contracting.{FrontMade, SumAsked, NoDenseAxis};
 
-use rules::{Head, Refusal, Step};
+use rules::{Head, Kind, Refusal};
 
 // With dense axes: one less, and the rows as they stand in the record.
 fn sum_dense_axis(record: &[i32], head: Head, part: &mut [i32])
@@ -64,7 +64,7 @@ fn sum_front(record: &[i32], head: Head, part: &mut [i32])
 {
     if head.width < head.rank {
         sum_dense_axis(record, head, part);
-    } else if cells::get(record, records::KIND) == 1 {
+    } else if matches!(records::kind_at(record, records::KIND), Kind::Diagonal) {
         sum_diagonal(record, head, part);
     } else {
         sum_rows(record, head, part);
@@ -72,16 +72,16 @@ fn sum_front(record: &[i32], head: Head, part: &mut [i32])
 }
 
 // The layout of a record, summed over its last axis, goes into a part; one without axes is refused with 7.
-pub fn contract_into(record: &[i32], head: Head, part: &mut [i32]) -> Step
+pub fn contract_into(record: &[i32], head: Head, part: &mut [i32]) -> Result<(), Refusal>
     requires sound_record { SoundRecord head «record».now }
     requires part_size_in_bounds { part_size ≤ length part.old }
     ensures { Says (contract_last_axis (layout_in «record».now)) 0 part.new result }
 {
     if head.rank == 0 {
-        return Step::Refused(Refusal::ScalarContracted);
+        return Err(Refusal::ScalarContracted);
     }
     sum_front(record, head, part);
     let places = moving::shorter_places(head.rank - 1, head.rank);
     moving::pick_deps(record, head, places, head.rank, part);
-    Step::Done
+    Ok(())
 }

@@ -9,18 +9,19 @@ ghost use Rattle.rules.specs.Endings.{Ends};
 ghost use Rattle.rules.specs.ContractLastAxis.{contract_last_axis_call};
 ghost use Rattle.rules.specs.Permute.{permute_call};
 
-use judging::Sizes;
-use rules::{Refusal, Walk, Written};
+use rules::Refusal;
 
 // The layout of a record, summed over its last axis, goes to the result.
-pub fn contract_last_axis(record: &[i32], res: &mut [i32], work: &mut [i32]) -> Written
+pub fn contract_last_axis(
+    record: &[i32],
+    res: &mut [i32],
+    work: &mut [i32],
+) -> Result<usize, Refusal>
     ensures { Ends (in_form encode (contract_last_axis_call «record».now (length res.old) (length work.old))) res.old work.old result res.new work.new }
 {
     let over = records::over_record(record);
-    if let Sizes::Refused(why) = judging::judge_sizes(over, res.len(), work.len()) {
-        return Written::Refused(why);
-    }
-    let Walk::To(head) = records::sound_head(record) else {
+    judging::judge_sizes(over, res.len(), work.len())?;
+    let Some(head) = records::sound_head(record) else {
         return parts::refuse(Refusal::Unsound, work);
     };
     let step = reshape::contract_into(record, head, &mut work[0..parts::PART]);
@@ -28,14 +29,17 @@ pub fn contract_last_axis(record: &[i32], res: &mut [i32], work: &mut [i32]) -> 
 }
 
 // The layout of a record with its axes moved by a permutation goes to the result.
-pub fn permute(record: &[i32], permutation: &[i32], res: &mut [i32], work: &mut [i32]) -> Written
+pub fn permute(
+    record: &[i32],
+    permutation: &[i32],
+    res: &mut [i32],
+    work: &mut [i32],
+) -> Result<usize, Refusal>
     ensures { Ends (in_form encode (permute_call «record».now permutation.now (length res.old) (length work.old))) res.old work.old result res.new work.new }
 {
     let over = records::over_record(record);
-    if let Sizes::Refused(why) = judging::judge_sizes(over, res.len(), work.len()) {
-        return Written::Refused(why);
-    }
-    let Walk::To(head) = records::sound_head(record) else {
+    judging::judge_sizes(over, res.len(), work.len())?;
+    let Some(head) = records::sound_head(record) else {
         return parts::refuse(Refusal::Unsound, work);
     };
     let step = reshape::permute_into(record, head, permutation, &mut work[0..parts::PART]);

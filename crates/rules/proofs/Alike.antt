@@ -8,7 +8,7 @@ use native.Mathlib.Omega.{arith}
 use borrow.Author.Tests.{eqb-true, eq-eqb, lt-ltb}
 use lib.Dec.{eqb}
 use lib.ListN.{length, get_or, take, drop, replicate, take-append-drop}
-use Rattle.rules.specs.declared.Ordering.TheVariants.{Less}
+use Rattle.std.specs.declared.cmp.Ordering.TheVariants.{Less}
 use Rattle.rules.specs.Lists.{all, all_below}
 use Rattle.rules.specs.RowsInOrder.{cmp_rows}
 use Rattle.rules.specs.Layout.{alike}

@@ -9,7 +9,7 @@ use native.Mathlib.Nat.{zero-mul}
 use borrow.Author.Tests.{eq-eqb, eqb-true, eqb-false, ne_eqb}
 use lib.Dec.{eqb}
 use lib.ListN.{length, get_or}
-use Rattle.rules.specs.declared.Ordering.TheVariants.{Less}
+use Rattle.std.specs.declared.cmp.Ordering.TheVariants.{Less}
 use Rattle.rules.specs.Lists.{if, all, product}
 use Rattle.rules.specs.RowsInOrder.{cmp_rows, sorted, Each, Increasing}
 use Rattle.rules.specs.Refusals.{given, refused, ◌when◌, lowest}

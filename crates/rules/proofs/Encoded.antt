@@ -1,4 +1,5 @@
 -- The record of a sound layout is walked to its end and read back, whatever stands behind it. Assumes nothing.
+use Rattle.std.specs.Prelude.{Some}
 use mathlib.Core.Path.{◌≡◌, sym, ap, ◌∙◌}
 use mathlib.Core.Bool.{true}
 use mathlib.Core.List.{List, [], ◌∷◌, ◌++◌, map, append_assoc, append-nil, map-append}
@@ -13,7 +14,6 @@ use lib.Seq.{take_at}
 use lib.Signed.{non_neg}
 use Rattle.rules.specs.declared.Entries.{Entries}
 use Rattle.rules.specs.declared.Head.{Head}
-use Rattle.rules.specs.declared.Walk.TheVariants.{To}
 use Rattle.rules.specs.Limits.{result_size}
 use Rattle.rules.specs.Lists.{all}
 use Rattle.rules.specs.Buffers.{part}
@@ -125,7 +125,7 @@ module _ {l : Layout} (s : Sound l) (rest : List ℤ) where
   -- ---- walked
 
   -- the record is walked to its end
-  pub walk_encode : walk (encode l ++ rest) ≡ To (head_of l)
+  pub walk_encode : walk (encode l ++ rest) ≡ Some (head_of l)
   unfolding walk
   walk_encode =
       let kind : get_or (encode l ++ rest) 0 (pos 0) ≡ pos l.kind = rw split in
@@ -192,7 +192,7 @@ module _ {l : Layout} (s : Sound l) (rest : List ℤ) where
 
 module _ {l : Layout} (s : Sound l) where
   -- the record is walked to its end
-  pub walk_alone : walk (encode l) ≡ To (head_of l)
+  pub walk_alone : walk (encode l) ≡ Some (head_of l)
   walk_alone = rw append-nil at (walk_encode s [])
 
   -- the layout is read back

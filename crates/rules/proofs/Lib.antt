@@ -35,6 +35,7 @@
 --     EntriesKept, EntriesBroadcast, NoEntryLost, UnlistedSame     no dependency is lost, by an operation and in an expression; what is not listed does not matter
 --     BroadcastLists, ProductFolds, ProductLists                   what a broadcast in mode 1 lists, exactly: sums, one layout, diagonals, products, and a call
 --     EntriesByHand                                                where the rules do lose a dependency, each loss with the way round it, and two that are kept
+pub mod KindRead
 pub mod Order
 pub mod Same
 pub mod Sets
@@ -117,6 +118,7 @@ pub mod MovedBy
 pub mod Blocks
 pub mod ConcatenateMade
 pub mod JoinHolds
+pub mod HandedOn
 pub mod Determined
 pub mod WorkedByHand
 pub mod Refusing

@@ -6,7 +6,7 @@ use mathlib.Core.List.{List, [], ◌∷◌, map, Memᴰ}
 use Prim.Native.Nat.{ℕ, zero, suc, ◌+◌, ◌<◌, ◌≤◌}
 use native.Mathlib.Omega.{arith}
 use lib.ListN.{length, get_or}
-use Rattle.rules.specs.declared.Ordering.TheVariants.{Less}
+use Rattle.std.specs.declared.cmp.Ordering.TheVariants.{Less}
 use Rattle.rules.specs.Lists.{from}
 use Rattle.rules.specs.RowsInOrder.{cmp_rows, Least, Increasing, increasing_nil, increasing_cons}
 use Rattle.rules.proofs.Order.{ComparedNumbers, under, even, above, compare_numbers}

@@ -1,4 +1,5 @@
 -- A sound record is the record of the layout that is read from it. Assumes nothing.
+use Rattle.std.specs.Prelude.{None, Option, Some}
 use mathlib.Core.Path.{◌≡◌, refl, sym, ◌∙◌}
 use mathlib.Core.Bool.{true}
 use mathlib.Core.List.{List, [], ◌∷◌, ◌++◌, map, map-append}
@@ -12,8 +13,6 @@ use lib.Seq.{take-add, drop-cons, take-append_seam}
 use lib.Signed.{non_neg}
 use Rattle.rules.specs.declared.Entries.{Entries}
 use Rattle.rules.specs.declared.Head.{Head}
-use Rattle.rules.specs.declared.Walk.{Walk}
-use Rattle.rules.specs.declared.Walk.TheVariants.{To, Broken}
 use Rattle.rules.specs.Limits.{entry_limit}
 use Rattle.rules.specs.Lists.{all, gather}
 use Rattle.rules.specs.Buffers.{part}
@@ -119,7 +118,7 @@ module _ {s : List ℤ} {h : Head} (w : Walked s h) (e : all non_neg (take h.inp
 -- what a sound slice has: a head, by which it was walked, no negative number in its record, and a sound layout
 record Judged (s : List ℤ) : Type 0 where
   head : Head
-  is : walk s ≡ To head
+  is : walk s ≡ Some head
   natural : all non_neg (take head.inputs.next s) ≡ true
   layout : Sound (layout_by head s)
 
@@ -129,11 +128,11 @@ module _ (s : List ℤ) (e : sound s ≡ true) where
   unfolding sound
   judged = by (walk s) refl e
     where
-      by : (k : Walk) → walk s ≡ k → sound_from k s ≡ true → Judged s
-      by (To h) p q =
+      by : (k : Option Head) → walk s ≡ k → sound_from k s ≡ true → Judged s
+      by (Some h) p q =
           let b = both_true (all non_neg (take h.inputs.next s)) (sound_layout (layout_by h s)) q in
           record { head = h; is = p; natural = b.0; layout = sound_true b.1 }
-      by Broken p q = absurd (true_not_false q refl)
+      by None p q = absurd (true_not_false q refl)
 
   -- the layout of a sound record is sound
   pub layout_sound : Sound (layout_in s)
@@ -152,5 +151,5 @@ module _ (s : List ℤ) (e : sound s ≡ true) where
   reads_back = sym (rw record_and_rest at (take-append_seam (encode (layout_in s)) (behind_record s)))
 
   -- and its walk is that of the record of its layout
-  pub walk_sound : walk s ≡ To (head_of (layout_in s))
+  pub walk_sound : walk s ≡ Some (head_of (layout_in s))
   walk_sound = rw record_and_rest at (walk_encode layout_sound (behind_record s))

@@ -7,7 +7,7 @@ use native.Mathlib.Omega.{arith}
 use borrow.Author.Tests.{eqb-true, eqb-false, eq-eqb, ne_eqb}
 use lib.Dec.{eqb}
 use lib.ListN.{length}
-use Rattle.rules.specs.declared.Ordering.TheVariants.{Equal}
+use Rattle.std.specs.declared.cmp.Ordering.TheVariants.{Equal}
 use Rattle.rules.specs.Lists.{same, same_rows}
 use Rattle.rules.specs.RowsInOrder.{cmp_rows}
 use Rattle.rules.proofs.Order.{cmp_same, cmp_equal}

@@ -1,4 +1,5 @@
 -- A counted section that stands at a place of a slice is walked, read and left behind as what it is. Assumes nothing.
+use Rattle.std.specs.Prelude.{Some}
 use mathlib.Core.Path.{◌≡◌, refl, sym, ap, ◌∙◌}
 use mathlib.Core.Bool.{true}
 use mathlib.Core.List.{List, [], ◌∷◌, ◌++◌, map, append_assoc, map-append}
@@ -10,7 +11,6 @@ use lib.IntN.{ℤ, pos, negsuc}
 use lib.ListN.{length, get_or, drop, replicate, length-append, length-drop, length-map}
 use lib.Seq.{take_at, drop_at, drop-drop, get_or-drop}
 use lib.Signed.{non_neg}
-use Rattle.rules.specs.declared.Section.TheVariants.{Whole}
 use Rattle.rules.specs.Limits.{entry_limit}
 use Rattle.rules.specs.Lists.{all, gather}
 use Rattle.rules.specs.Buffers.{part}
@@ -80,7 +80,7 @@ module _ {i w n : ℕ} {body : List ℕ} {s q : List ℤ} (h : Stands i w n body
       omega arith
 
   -- they are walked
-  pub section_at_lem : section_at i w s ≡ Whole (record { count = n; first = i + 1; next = i + 1 + n * w })
+  pub section_at_lem : section_at i w s ≡ Some (record { count = n; first = i + 1; next = i + 1 + n * w })
   unfolding section_at entries_from
   section_at_lem =
       let count : get_or s i (negsuc 0) ≡ pos n = rw add-zero at (sym (get_or-drop i s 0 (negsuc 0))) ∙ rw h.is in

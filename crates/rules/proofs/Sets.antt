@@ -5,8 +5,8 @@ use mathlib.Core.Logic.{◌⊎◌, inl, inr, ⊎_elim}
 use mathlib.Core.List.Memᴰ
 use mathlib.Core.List.{List, [], ◌∷◌, ◌++◌}
 use Prim.Native.Nat.{ℕ}
-use Rattle.rules.specs.declared.Ordering.{Ordering}
-use Rattle.rules.specs.declared.Ordering.TheVariants.{Less, Equal, Greater}
+use Rattle.std.specs.declared.cmp.Ordering.{Ordering}
+use Rattle.std.specs.declared.cmp.Ordering.TheVariants.{Less, Equal, Greater}
 use Rattle.rules.specs.Lists.{any, same}
 use Rattle.rules.specs.RowsInOrder.{cmp_rows, is_less, increasing, among, In, Each, Least, Increasing, increasing_nil, increasing_cons}
 use Rattle.rules.proofs.Order.{cmp_less_trans, less_not_same, cmp_less_flip, less_not_greater}

@@ -1,4 +1,5 @@
 -- What a record that was walked to its end says. Assumes nothing.
+use Rattle.std.specs.Prelude.{None, Option, Some}
 use mathlib.Core.Path.{◌≡◌, refl}
 use mathlib.Core.Bool.{Bool, true, false}
 use mathlib.Core.List.{List}
@@ -9,11 +10,7 @@ use lib.Dec.{leb}
 use lib.IntN.{ℤ, pos, negsuc, ◌-ℤ◌}
 use lib.ListN.{length, get_or}
 use Rattle.rules.specs.declared.Entries.{Entries}
-use Rattle.rules.specs.declared.Section.{Section}
-use Rattle.rules.specs.declared.Section.TheVariants.{Whole, Cut}
 use Rattle.rules.specs.declared.Head.{Head}
-use Rattle.rules.specs.declared.Walk.{Walk}
-use Rattle.rules.specs.declared.Walk.TheVariants.{To}
 use Rattle.rules.specs.Lists.{if}
 use Rattle.rules.specs.Record.{entries_from, section_at, after, width_by, walk}
 
@@ -27,16 +24,16 @@ pub record Lies (i w : ℕ) (s : List ℤ) (e : Entries) : Type 0 where
   pub room : e.next ≤ length s
 
 -- entries that are whole by a test passed it
-pub passed : (t : Bool) {e f : Entries} → if t (Whole e) Cut ≡ Whole f → (t ≡ true) × (e ≡ f)
+pub passed : (t : Bool) {e f : Entries} → if t (Some e) None ≡ Some f → (t ≡ true) × (e ≡ f)
 passed true p = (refl, cc)
 passed false p = (cc, cc)
 
 -- a whole section lies in the slice
-pub lies : (i w : ℕ) (s : List ℤ) (e : Entries) → section_at i w s ≡ Whole e → Lies i w s e
+pub lies : (i w : ℕ) (s : List ℤ) (e : Entries) → section_at i w s ≡ Some e → Lies i w s e
 unfolding section_at entries_from
 lies i w s e p = by (get_or s i (negsuc 0)) refl p
   where
-    by : (z : ℤ) → get_or s i (negsuc 0) ≡ z → entries_from (length s) w (i + 1) z ≡ Whole e → Lies i w s e
+    by : (z : ℤ) → get_or s i (negsuc 0) ≡ z → entries_from (length s) w (i + 1) z ≡ Some e → Lies i w s e
     by (pos n) f q =
         let t = passed (leb (i + 1 + n * w) (length s)) q in
         rw (← t.1) (record { count = f; first = refl; next = refl; room = leb-true (i + 1 + n * w) (length s) t.0 })
@@ -57,21 +54,21 @@ pub record Walked (s : List ℤ) (h : Head) : Type 0 where
   pub inputs_lie : Lies h.states.next (h.rank + 1) s h.inputs
 
 -- a walk to its end goes on behind each section
-past : {C : Type 0} (g : Section) (next : Entries → Walk) (h : Head) → after g next ≡ To h → ((e : Entries) → g ≡ Whole e → next e ≡ To h → C) → C
-past (Whole e) next h p f = f e refl p
-past Cut next h p f = absurd (let z : ◌≡◌ {A = ℕ} 0 1 = cc p in omega arith)
+past : {C : Type 0} (g : Option Entries) (next : Entries → (Option Head)) (h : Head) → after g next ≡ Some h → ((e : Entries) → g ≡ Some e → next e ≡ Some h → C) → C
+past (Some e) next h p f = f e refl p
+past None next h p f = absurd (let z : ◌≡◌ {A = ℕ} 0 1 = cc p in omega arith)
 
 -- and with a width
-past_width : {C : Type 0} (z : ℤ) (next : ℕ → Walk) (h : Head) → width_by z next ≡ To h → ((w : ℕ) → z ≡ pos w → next w ≡ To h → C) → C
+past_width : {C : Type 0} (z : ℤ) (next : ℕ → (Option Head)) (h : Head) → width_by z next ≡ Some h → ((w : ℕ) → z ≡ pos w → next w ≡ Some h → C) → C
 past_width (pos w) next h p f = f w refl p
 past_width (negsuc n) next h p f = absurd (let z : ◌≡◌ {A = ℕ} 0 1 = cc p in omega arith)
 
 -- it has one head
-pub one_head : {h k : Head} → To h ≡ To k → h ≡ k
+pub one_head : {h k : Head} → Some h ≡ Some k → h ≡ k
 one_head e = cc
 
 -- a walked record is what its head says
-pub walked : (s : List ℤ) (h : Head) → walk s ≡ To h → Walked s h
+pub walked : (s : List ℤ) (h : Head) → walk s ≡ Some h → Walked s h
 unfolding walk
 walked s h p =
     past (section_at 2 1 s) _ h p λ extents a p.

@@ -1,7 +1,9 @@
 -- A layout, when it is sound, and its record.
 use Rattle.std.specs.Prelude.{Bool, true, not, ◌&&◌, ◌||◌, List, [], ◌∷◌, ◌++◌, map, ℕ, suc, ◌-◌, length, take, eqb, leb, ℤ, pos}
+use Rattle.rules.specs.declared.Kind.{Kind}
+use Rattle.rules.specs.declared.Kind.TheVariants.{Dense, Diagonal, Sparse}
 use Rattle.rules.specs.Limits.{rank_limit, entry_limit, product_limit, component_limit}
-use Rattle.rules.specs.Lists.{implies, all, none, keep, gather, product, all_below}
+use Rattle.rules.specs.Lists.{if, implies, all, none, keep, gather, product, all_below}
 use Rattle.rules.specs.RowsInOrder.{increasing, sorted}
 use Rattle.rules.specs.Refusals.{Verdict, given, ◌then◌, ◌when◌, lowest}
 
@@ -31,6 +33,10 @@ is_diagonal l = eqb l.kind 1
 
 abbrev pub is_sparse : Layout → Bool
 is_sparse l = eqb l.kind 2
+
+-- the kind that a number stands for: any above 1 is read as sparse, and a sound layout has none above 2
+unfoldable pub kind_of : ℕ → Kind
+kind_of n = if (eqb n 0) Dense (if (eqb n 1) Diagonal Sparse)
 
 -- the same layout with other dependencies
 abbrev pub with_deps : List (List ℕ) → List (List ℕ) → Layout → Layout

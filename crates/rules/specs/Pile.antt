@@ -1,18 +1,17 @@
 -- The pile: layouts of one shape, of which two are exchanged for their union and their intersection, any number of times; and the
 -- same on a slice of records.
+use Rattle.std.specs.Prelude.{Result, ⊤}
+use Rattle.rules.specs.declared.Refusal.{Refusal}
 use Rattle.std.specs.Prelude.{◌≡◌, Bool, true, false, not, ◌&&◌, ◌||◌, List, [], ◌∷◌, map, ℕ, suc, ◌+◌, ◌*◌, ◌/◌, ◌%◌, ℤ, pos, negsuc, length, get_or, set, eqb, ltb}
-use Rattle.rules.specs.declared.Number.{Number}
-use Rattle.rules.specs.declared.Step.{Step}
-use Rattle.rules.specs.declared.Step.TheVariants.{Done, Refused}
 use Rattle.rules.specs.Limits.{result_size, work_size}
 use Rattle.rules.specs.Lists.{all, none, keep, below, sum, same}
 use Rattle.rules.specs.Buffers.{part, put}
 use Rattle.rules.specs.RowsInOrder.{increasing}
-use Rattle.rules.specs.Refusals.{Verdict, given, refused, in_form, number_of, ◌then◌, ◌when◌, lowest}
+use Rattle.rules.specs.Refusals.{Verdict, given, refused, in_form, ◌then◌, ◌when◌, lowest}
 use Rattle.rules.specs.Layout.{Layout, is_dense, is_sparse, sound_layout, encode}
 use Rattle.rules.specs.Record.{natural, layout_in, nowhere, sound}
 use Rattle.rules.specs.Arguments.{short_work}
-use Rattle.rules.specs.Endings.{Lookup, found, nothing, number_says, work_after}
+use Rattle.rules.specs.Endings.{Lookup, found, nothing, says, work_after}
 use Rattle.rules.specs.Lookup.{lookup}
 use Rattle.rules.specs.CountsAndForms.{nnz}
 use Rattle.rules.specs.Union.{union_call}
@@ -163,19 +162,14 @@ exchanges_in (first ∷ second ∷ pairs) = record { first = first; second = sec
 
 -- ---- how an exchange ends
 
--- whether an exchange was made, or its refusal
-abbrev pub exchange_says : Step → Verdict Unit
-exchange_says Done = given tt
-exchange_says (Refused why) = refused (number_of why)
-
 -- the end of an exchange: its answer, the pile, which stays where it is refused, and the working buffer
-pub record Exchanged (v : Verdict (List ℤ)) (pile work : List ℤ) (r : Step) (pile' work' : List ℤ) : Type 0 where
-  pub answer : exchange_says r ≡ in_form (λ _. tt) v
+pub record Exchanged (v : Verdict (List ℤ)) (pile work : List ℤ) (r : Result ⊤ Refusal) (pile' work' : List ℤ) : Type 0 where
+  pub answer : says r ≡ in_form (λ _. tt) v
   pub pile_is : pile' ≡ given_or pile v
   pub work_is : work' ≡ work_after v work
 
 -- the end of many: how many were made, the pile after them, and the working buffer
-pub record AllExchanged (v : Verdict Exchanges) (pile work : List ℤ) (r : Number) (pile' work' : List ℤ) : Type 0 where
-  pub answer : number_says r ≡ in_form (λ e. e.made) v
+pub record AllExchanged (v : Verdict Exchanges) (pile work : List ℤ) (r : Result ℕ Refusal) (pile' work' : List ℤ) : Type 0 where
+  pub answer : says r ≡ in_form (λ e. e.made) v
   pub pile_is : pile' ≡ given_or pile (in_form (λ e. e.pile) v)
   pub work_is : work' ≡ work_after (in_form (λ e. e.pile) v) work

@@ -1,7 +1,7 @@
 -- Module 2, positions: indices and their numbers in row-major order.
 use Rattle.std.specs.Prelude.{not, ◌&&◌, List, [], ◌∷◌, ℕ, ◌+◌, ◌*◌, ◌/◌, ◌%◌, length, eqb, leb, ℤ}
 use Rattle.std.specs.Int.Signed.{non_neg}
-use Rattle.rules.specs.declared.Ordering.{Ordering}
+use Rattle.std.specs.declared.cmp.Ordering.{Ordering}
 use Rattle.rules.specs.Limits.{rank_limit}
 use Rattle.rules.specs.Lists.{any, product}
 use Rattle.rules.specs.RowsInOrder.{cmp_rows}

@@ -1,12 +1,9 @@
 -- The record of a layout in a slice of signed numbers: walked, judged and read.
+use Rattle.std.specs.Prelude.{None, Option, Some}
 use Rattle.std.specs.Prelude.{Bool, false, ◌&&◌, List, [], ◌∷◌, map, ℕ, zero, suc, min, ◌+◌, ◌*◌, length, get_or, take, drop, replicate, leb, ltb, ℤ, pos, negsuc, ◌-ℤ◌}
 use Rattle.std.specs.Int.Signed.{non_neg}
 use Rattle.rules.specs.declared.Entries.{Entries}
-use Rattle.rules.specs.declared.Section.{Section}
-use Rattle.rules.specs.declared.Section.TheVariants.{Whole, Cut}
 use Rattle.rules.specs.declared.Head.{Head}
-use Rattle.rules.specs.declared.Walk.{Walk}
-use Rattle.rules.specs.declared.Walk.TheVariants.{To, Broken}
 use Rattle.rules.specs.Limits.{list_limit, entry_limit}
 use Rattle.rules.specs.Lists.{if, all}
 use Rattle.rules.specs.Buffers.{part}
@@ -16,25 +13,25 @@ use Rattle.rules.specs.Layout.{Layout, sound_layout, within_product}
 -- ---- walking
 
 -- n entries of w numbers each from f on, if they end in a slice of so many numbers; a negative count cannot be walked
-unfoldable pub entries_from : ℕ → ℕ → ℕ → ℤ → Section
-entries_from size w f (pos n) = if (leb (f + n * w) size) (Whole (record { count = n; first = f; next = f + n * w })) Cut
-entries_from size w f (negsuc n) = Cut
+unfoldable pub entries_from : ℕ → ℕ → ℕ → ℤ → Option Entries
+entries_from size w f (pos n) = if (leb (f + n * w) size) (Some (record { count = n; first = f; next = f + n * w })) None
+entries_from size w f (negsuc n) = None
 
 -- the section whose count stands at i; where nothing stands there, it is cut off
-unfoldable pub section_at : ℕ → ℕ → List ℤ → Section
+unfoldable pub section_at : ℕ → ℕ → List ℤ → Option Entries
 section_at i w s = entries_from (length s) w (i + 1) (get_or s i (negsuc 0))
 
-abbrev pub after : Section → (Entries → Walk) → Walk
-after (Whole e) next = next e
-after Cut next = Broken
+abbrev pub after : Option Entries → (Entries → (Option Head)) → Option Head
+after (Some e) next = next e
+after None next = None
 
 -- R - D, which cannot be negative
-abbrev pub width_by : ℤ → (ℕ → Walk) → Walk
+abbrev pub width_by : ℤ → (ℕ → (Option Head)) → Option Head
 width_by (pos w) next = next w
-width_by (negsuc n) next = Broken
+width_by (negsuc n) next = None
 
 -- kind and D, then extents, rows of R - D numbers, state and input dependencies of R + 1 numbers
-unfoldable pub walk : List ℤ → Walk
+unfoldable pub walk : List ℤ → Option Head
 walk s =
     after (section_at 2 1 s) λ extents.
     let r : ℕ = extents.count in
@@ -42,7 +39,7 @@ walk s =
     after (section_at extents.next w s) λ rows.
     after (section_at rows.next (r + 1) s) λ states.
     after (section_at states.next (r + 1) s) λ inputs.
-    To (record {
+    Some (record {
       kind = get_or s 0 (pos 0);
       dense = get_or s 1 (pos 0);
       rank = r;
@@ -91,9 +88,9 @@ layout_by h s = record {
 abbrev pub nowhere : Layout
 nowhere = record { kind = 0; dense = 0; shape = []; rows = []; states = []; inputs = [] }
 
-abbrev pub layout_from : Walk → List ℤ → Layout
-layout_from (To h) s = layout_by h s
-layout_from Broken s = nowhere
+abbrev pub layout_from : Option Head → List ℤ → Layout
+layout_from (Some h) s = layout_by h s
+layout_from None s = nowhere
 
 unfoldable pub layout_in : List ℤ → Layout
 layout_in s = layout_from (walk s) s
@@ -101,9 +98,9 @@ layout_in s = layout_from (walk s) s
 -- ---- soundness
 
 -- a record that lies in its slice is sound if none of its numbers is negative and its layout is sound
-abbrev pub sound_from : Walk → List ℤ → Bool
-sound_from (To h) s = all non_neg (take h.inputs.next s) && sound_layout (layout_by h s)
-sound_from Broken s = false
+abbrev pub sound_from : Option Head → List ℤ → Bool
+sound_from (Some h) s = all non_neg (take h.inputs.next s) && sound_layout (layout_by h s)
+sound_from None s = false
 
 unfoldable pub sound : List ℤ → Bool
 sound s = sound_from (walk s) s
@@ -113,9 +110,9 @@ unfoldable pub ordered : List ℤ → Bool
 ordered s = sound s && increasing (layout_in s).rows
 
 -- the part of the record that is its row n
-abbrev pub row_part : ℕ → Walk → List ℤ → List ℤ
-row_part n (To h) s = if (ltb n h.rows.count) (part (h.rows.first + n * h.width) h.width s) []
-row_part n Broken s = []
+abbrev pub row_part : ℕ → Option Head → List ℤ → List ℤ
+row_part n (Some h) s = if (ltb n h.rows.count) (part (h.rows.first + n * h.width) h.width s) []
+row_part n None s = []
 
 -- asked for a row by number: that very part, or the empty part where there is no such row or the record is not sound
 unfoldable pub row : List ℤ → ℤ → List ℤ
@@ -123,9 +120,9 @@ row s (pos n) = if (sound s) (row_part n (walk s) s) []
 row s (negsuc n) = []
 
 -- where that part begins in the slice; an empty part is the one at the front
-abbrev pub row_start : ℕ → Walk → ℕ
-row_start n (To h) = if (ltb n h.rows.count) (h.rows.first + n * h.width) 0
-row_start n Broken = 0
+abbrev pub row_start : ℕ → Option Head → ℕ
+row_start n (Some h) = if (ltb n h.rows.count) (h.rows.first + n * h.width) 0
+row_start n None = 0
 
 unfoldable pub row_place : List ℤ → ℤ → ℕ
 row_place s (pos n) = if (sound s) (row_start n (walk s)) 0
@@ -133,17 +130,17 @@ row_place s (negsuc n) = 0
 
 -- ---- lists: things end to end; one that is not walkable takes the rest, and those after it are empty parts
 
-abbrev pub rest_from : Walk → List ℤ → List ℤ
-rest_from (To h) s = drop h.inputs.next s
-rest_from Broken s = []
+abbrev pub rest_from : Option Head → List ℤ → List ℤ
+rest_from (Some h) s = drop h.inputs.next s
+rest_from None s = []
 
 -- what stands behind the record
 unfoldable pub behind_record : List ℤ → List ℤ
 behind_record s = rest_from (walk s) s
 
-abbrev pub rest_after : Section → List ℤ → List ℤ
-rest_after (Whole e) s = drop e.next s
-rest_after Cut s = []
+abbrev pub rest_after : Option Entries → List ℤ → List ℤ
+rest_after (Some e) s = drop e.next s
+rest_after None s = []
 
 -- what stands behind the shape
 unfoldable pub behind_shape : List ℤ → List ℤ
@@ -171,9 +168,9 @@ shapes_in n s = end_to_end behind_shape (list_count n) s
 unfoldable pub shape_in : List ℤ → List ℕ
 shape_in s = naturals (part 1 (natural (get_or s 0 (pos 0))) s)
 
-abbrev pub good_extents : Section → List ℤ → Bool
-good_extents (Whole e) s = all non_neg (part 1 e.count s) && within_product (shape_in s)
-good_extents Cut s = false
+abbrev pub good_extents : Option Entries → List ℤ → Bool
+good_extents (Some e) s = all non_neg (part 1 e.count s) && within_product (shape_in s)
+good_extents None s = false
 
 -- a shape obeys the extent rules: all there, none negative, the product of the nonzero ones within the limit
 unfoldable pub good_shape : List ℤ → Bool

@@ -1,4 +1,4 @@
-// The limits and the types of the answers. What each answer means stands in specs/.
+// The limits, why a call is refused, and the types that several crates share. What each means stands in specs/.
 #![tactic(auto)]
 
 // How large things may be; specs/Limits.antt says what each limit bounds.
@@ -35,12 +35,15 @@ pub enum Refusal {
     MadeTooLarge,
 }
 
-// How two rows or two indices compare.
+// The kinds of layouts; specs/Layout.antt says which number of a record stands for which.
 #[derive(Clone, Copy)]
-pub enum Ordering {
-    Less,
-    Equal,
-    Greater,
+pub enum Kind {
+    // Every index.
+    Dense,
+    // The indices of equal components.
+    Diagonal,
+    // The indices that are listed.
+    Sparse,
 }
 
 // What an operator byte asks of the layouts that are folded.
@@ -58,54 +61,10 @@ pub enum Mode {
     Together,
 }
 
-// How many numbers of the result buffer were written, or a refusal.
-#[derive(Clone, Copy)]
-pub enum Written {
-    Numbers(usize),
-    Refused(Refusal),
-}
-
-// A number, or a refusal.
-#[derive(Clone, Copy)]
-pub enum Number {
-    Is(usize),
-    Refused(Refusal),
-}
-
-// Yes or no, or a refusal.
-#[derive(Clone, Copy)]
-pub enum Test {
-    Yes,
-    No,
-    Refused(Refusal),
-}
-
-// How two indices compare, or a refusal.
-#[derive(Clone, Copy)]
-pub enum Comparison {
-    By(Ordering),
-    Refused(Refusal),
-}
-
-// Where a lookup finds an index, that it is not held, or a refusal.
-#[derive(Clone, Copy)]
-pub enum Place {
-    Found(usize),
-    Nothing,
-    Refused(Refusal),
-}
-
-// A step in the working buffer made its layout, or is refused.
-#[derive(Clone, Copy)]
-pub enum Step {
-    Done,
-    Refused(Refusal),
-}
-
-// A shape or an index by value: as many of the numbers as the count says, zeros behind them; all zeros where it is refused.
+// A shape or an index by value: as many of the numbers as the count says, zeros behind them.
 #[derive(Clone, Copy)]
 pub struct Tuple {
-    pub count: Number,
+    pub count: usize,
     pub numbers: [usize; 4],
 }
 
@@ -115,13 +74,6 @@ pub struct Entries {
     pub count: usize,
     pub first: usize,
     pub next: usize,
-}
-
-// A section of a record, or one that is cut off or has no count.
-#[derive(Clone, Copy)]
-pub enum Section {
-    Whole(Entries),
-    Cut,
 }
 
 // A walked record: its kind and dense-axis count as they stand there, its rank, the width of its rows, and its sections.
@@ -134,11 +86,4 @@ pub struct Head {
     pub rows: Entries,
     pub states: Entries,
     pub inputs: Entries,
-}
-
-// A record that was walked to its end, or one that cannot be.
-#[derive(Clone, Copy)]
-pub enum Walk {
-    To(Head),
-    Broken,
 }

@@ -1,4 +1,5 @@
 -- What a shape that was judged says of its slice. Assumes nothing.
+use Rattle.std.specs.Prelude.{None, Option, Some}
 use mathlib.Core.Path.{◌≡◌, refl, sym, ap, ◌∙◌}
 use mathlib.Core.Bool.{Bool, true, false, not}
 use mathlib.Core.List.{List, [], ◌∷◌}
@@ -12,8 +13,6 @@ use lib.ListN.{length, get_or, take, drop, length-take, length-drop, get_or-eq_d
 use lib.Seq.{get_or-take, get_or-drop}
 use lib.Signed.{non_neg}
 use Rattle.rules.specs.declared.Entries.{Entries}
-use Rattle.rules.specs.declared.Section.{Section}
-use Rattle.rules.specs.declared.Section.TheVariants.{Whole, Cut}
 use Rattle.rules.specs.Limits.{product_limit}
 use Rattle.rules.specs.Lists.{if, all}
 use Rattle.rules.specs.Buffers.{part}
@@ -50,7 +49,7 @@ good [] e = absurd (true_not_false e refl)
 good (negsuc n ∷ l) e = absurd (true_not_false e refl)
 good (pos n ∷ l) e = by (leb (1 + n * 1) (suc (length l))) refl e
   where
-    by : (t : Bool) → leb (1 + n * 1) (suc (length l)) ≡ t → good_extents (if t (Whole (record { count = n; first = 1; next = 1 + n * 1 })) Cut) (pos n ∷ l) ≡ true → Good (pos n ∷ l)
+    by : (t : Bool) → leb (1 + n * 1) (suc (length l)) ≡ t → good_extents (if t (Some (record { count = n; first = 1; next = 1 + n * 1 })) None) (pos n ∷ l) ≡ true → Good (pos n ∷ l)
     by true h f =
         let room : 1 + n * 1 ≤ suc (length l) = leb-true (1 + n * 1) (suc (length l)) h in
         let both = both_true (all non_neg (part 1 n (pos n ∷ l))) (within_product (shape_in (pos n ∷ l))) f in
@@ -121,13 +120,13 @@ unfolding all part
 front_natural [] e l = absurd (omega (arith, l.at))
 front_natural (z ∷ s) e l = let n : e.next ≡ suc e.count = omega (arith, mul-one e.count, l.next, l.first) in rw (n, l.count)
 
-module _ (s : List ℤ) {g : Section} (is : g ≡ section_at 0 1 s) where
+module _ (s : List ℤ) {g : (Option Entries)} (is : g ≡ section_at 0 1 s) where
   -- one that is cut off is not good
-  pub good_cut : g ≡ Cut → false ≡ good_shape s
+  pub good_cut : g ≡ None → false ≡ good_shape s
   unfolding good_shape
   good_cut f = rw (← is, f)
 
-  module _ {e : Entries} (lies : SectionIn 0 1 s g) (f : g ≡ Whole e) where
+  module _ {e : Entries} (lies : SectionIn 0 1 s g) (f : g ≡ Some e) where
     laid : Laid 0 1 s e
     laid = (rw f at lies).0
 

@@ -1,4 +1,5 @@
 -- What the sign of a number says of what is judged by the number. Assumes nothing.
+use Rattle.std.specs.Prelude.{None, Option, Some}
 use mathlib.Core.Path.{◌≡◌, refl, sym, ap, ◌∙◌}
 use mathlib.Core.Bool.{Bool, true, false, not, ◌&&◌}
 use mathlib.Core.List.{List, [], ◌∷◌}
@@ -23,8 +24,6 @@ use Rattle.rules.specs.Arguments.{up_to, over_count, good_components, good_index
 use Rattle.rules.specs.Lookup.{good_indices}
 use Rattle.rules.proofs.RowsRead.{pos_naturals}
 use Rattle.rules.proofs.Same.{both_true, true_not_false}
-use Rattle.cells.specs.declared.Sign.{Sign}
-use Rattle.cells.specs.declared.Sign.TheVariants.{Natural, Negative}
 use Rattle.cells.specs.View.{view, Low, sign_of}
 use Rattle.cells.proofs.View.{view_length, view_pos}
 use Rattle.tables.specs.Rows.{row_at, HasRow}
@@ -39,12 +38,12 @@ above_limit limit n true e = rw (e, le-ltb limit n (leb-true n limit e))
 above_limit limit n false e = rw (e, lt-ltb limit n (leb-false n limit e))
 
 -- what is judged of a number that was read as negative
-module _ (z : ℤ) (e : sign_of z ≡ Negative) where
+module _ (z : ℤ) (e : sign_of z ≡ None) where
   none_natural : 0 ≡ natural z
   unfolding sign_of natural
   none_natural = by z e
     where
-      by : (y : ℤ) → sign_of y ≡ Negative → 0 ≡ natural y
+      by : (y : ℤ) → sign_of y ≡ None → 0 ≡ natural y
       by (pos n) f = cc
       by (negsuc n) f = refl
 
@@ -52,7 +51,7 @@ module _ (z : ℤ) (e : sign_of z ≡ Negative) where
   unfolding sign_of up_to
   none_up_to limit = by z e
     where
-      by : (y : ℤ) → sign_of y ≡ Negative → false ≡ up_to limit y
+      by : (y : ℤ) → sign_of y ≡ None → false ≡ up_to limit y
       by (pos n) f = cc
       by (negsuc n) f = refl
 
@@ -60,12 +59,12 @@ module _ (z : ℤ) (e : sign_of z ≡ Negative) where
   unfolding sign_of list_count
   none_listed = by z e
     where
-      by : (y : ℤ) → sign_of y ≡ Negative → 0 ≡ list_count y
+      by : (y : ℤ) → sign_of y ≡ None → 0 ≡ list_count y
       by (pos n) f = cc
       by (negsuc n) f = refl
 
 -- a number that was handed over is the one that was read
-pub handed_over : {g : Sign} (z : ℤ) → SFits w32 z → g ≡ sign_of (to_z w32 (of_z w32 z)) → g ≡ sign_of z
+pub handed_over : {g : (Option ℕ)} (z : ℤ) → SFits w32 z → g ≡ sign_of (to_z w32 (of_z w32 z)) → g ≡ sign_of z
 handed_over z h e = e ∙ ap sign_of (to_z-of_z w32 z h)
 
 -- nothing stands past the end
@@ -78,46 +77,46 @@ pub nothing_up_to : (limit : ℕ) (s : List ℤ) (i : ℕ) → length s ≤ i �
 unfolding up_to
 nothing_up_to limit s i h = rw (get_or-eq_default s (pos 0) h, le-leb 0 limit (omega arith))
 
-module _ {g : Sign} (z : ℤ) (e : g ≡ sign_of z) where
-  pub as_natural : {n : ℕ} → g ≡ Natural n → n ≡ natural z
+module _ {g : (Option ℕ)} (z : ℤ) (e : g ≡ sign_of z) where
+  pub as_natural : {n : ℕ} → g ≡ Some n → n ≡ natural z
   unfolding natural
   as_natural f = rw (sections.sign_natural z (sym e ∙ f))
 
-  pub as_nothing : g ≡ Negative → 0 ≡ natural z
+  pub as_nothing : g ≡ None → 0 ≡ natural z
   as_nothing f = none_natural z (sym e ∙ f)
 
-  pub as_over : {n : ℕ} → g ≡ Natural n → ltb list_limit n ≡ over_count z
+  pub as_over : {n : ℕ} → g ≡ Some n → ltb list_limit n ≡ over_count z
   unfolding up_to
   as_over {n} f = rw (sections.sign_natural z (sym e ∙ f)) (above_limit list_limit n (leb n list_limit) refl)
 
-  pub as_over_negative : g ≡ Negative → true ≡ over_count z
+  pub as_over_negative : g ≡ None → true ≡ over_count z
   as_over_negative f = ap not (none_up_to z (sym e ∙ f) list_limit)
 
-  pub as_count : {n : ℕ} → g ≡ Natural n → n ≤ list_limit → n ≡ list_count z
+  pub as_count : {n : ℕ} → g ≡ Some n → n ≤ list_limit → n ≡ list_count z
   unfolding list_count
   as_count {n} f h = rw (sections.sign_natural z (sym e ∙ f), le-leb n list_limit h)
 
-  pub as_no_count : {n : ℕ} → g ≡ Natural n → list_limit < n → 0 ≡ list_count z
+  pub as_no_count : {n : ℕ} → g ≡ Some n → list_limit < n → 0 ≡ list_count z
   unfolding list_count
   as_no_count {n} f h = rw (sections.sign_natural z (sym e ∙ f), lt-leb n list_limit h)
 
-  pub as_negative_count : g ≡ Negative → 0 ≡ list_count z
+  pub as_negative_count : g ≡ None → 0 ≡ list_count z
   as_negative_count f = none_listed z (sym e ∙ f)
 
-  pub as_up_to : (limit : ℕ) {n : ℕ} → g ≡ Natural n → leb n limit ≡ up_to limit z
+  pub as_up_to : (limit : ℕ) {n : ℕ} → g ≡ Some n → leb n limit ≡ up_to limit z
   unfolding up_to
   as_up_to limit f = rw (sections.sign_natural z (sym e ∙ f))
 
-  pub as_not_up_to : (limit : ℕ) → g ≡ Negative → false ≡ up_to limit z
+  pub as_not_up_to : (limit : ℕ) → g ≡ None → false ≡ up_to limit z
   as_not_up_to limit f = none_up_to z (sym e ∙ f) limit
 
 pub ruleset reading = (sections.size_natural, handed_over, nothing_there, as_natural, as_nothing, as_over, as_over_negative, as_count, as_no_count, as_negative_count, nothing_up_to, as_up_to, as_not_up_to)
 
 -- the sign of a number that was handed over says whether it is natural
-pub sign_natural : {g : Sign} (z : ℤ) {n : ℕ} → g ≡ sign_of z → g ≡ Natural n → non_neg z ≡ true
+pub sign_natural : {g : (Option ℕ)} (z : ℤ) {n : ℕ} → g ≡ sign_of z → g ≡ Some n → non_neg z ≡ true
 sign_natural z e f = natural_passes z (sym e ∙ f)
 
-pub sign_negative : {g : Sign} (z : ℤ) → g ≡ sign_of z → g ≡ Negative → non_neg z ≡ false
+pub sign_negative : {g : (Option ℕ)} (z : ℤ) → g ≡ sign_of z → g ≡ None → non_neg z ≡ false
 sign_negative z e f = negative_fails z (sym e ∙ f)
 
 -- ---- a list of numbers read as natural ones

@@ -9,7 +9,6 @@ ghost use Rattle.cells.specs.View.{Low};
 ghost use Rattle.shapes.specs.Judged.{Judged, axis_stretches};
 
 use super::numbers::natural_at;
-use rules::Section;
 
 // Whether the count of extents is over 4.
 pub fn over_shape(s: &[i32]) -> bool
@@ -37,13 +36,13 @@ pub fn good_shape(s: &[i32]) -> bool
     ensures { result ≡ good_shape s.now }
 {
     match records::section_at(s, 0, 1) {
-        Section::Whole(extents) => {
+        Some(extents) => {
             if !records::all_natural(s, extents.next) {
                 return false;
             }
             axes::within_product(s, 1, extents.count)
         }
-        Section::Cut => false,
+        None => false,
     }
 }
 
@@ -72,12 +71,10 @@ pub fn any_zero(s: &[i32]) -> bool
     ensures { result ≡ any (eqb 0) (shape_in s.now) }
 {
     let axes = rank(s);
-    let mut axis = 0;
-    while axis < axes {
+    for axis in 0..axes {
         if extent(s, axis) == 0 {
             return true;
         }
-        axis += 1;
     }
     false
 }
@@ -86,13 +83,7 @@ pub fn any_zero(s: &[i32]) -> bool
 fn axis_stretches(to: usize, from: usize) -> bool
     ensures { result ≡ axis_stretches to from }
 {
-    if to < from {
-        return false;
-    }
-    if from == 1 {
-        return true;
-    }
-    from == to
+    from <= to && (from == 1 || from == to)
 }
 
 // Whether the shape `from` broadcasts to the shape `to`.
@@ -105,12 +96,10 @@ pub fn stretches(to: &[i32], from: &[i32]) -> bool
     if axes < rank(from) {
         return false;
     }
-    let mut axis = 0;
-    while axis < axes {
+    for axis in 0..axes {
         if !axis_stretches(extent(to, axis), extent(from, axis)) {
             return false;
         }
-        axis += 1;
     }
     true
 }

@@ -5,8 +5,6 @@ ghost use Rattle.rules.specs.Arguments.{up_to, over_count, good_components, good
 ghost use Rattle.rules.specs.Lookup.{good_indices};
 ghost use Rattle.shapes.specs.Judged.{comparable_indices};
 
-use cells::Sign;
-
 // The number at a place: 0 where it is negative or nothing stands there.
 pub fn natural_at(s: &[i32], at: usize) -> usize
     ensures { (result ≡ natural (get_or s.now at (pos 0))) × (result < 2 ^ 31) }
@@ -15,8 +13,8 @@ pub fn natural_at(s: &[i32], at: usize) -> usize
         return 0;
     }
     match cells::sign_at(s, at) {
-        Sign::Natural(n) => n,
-        Sign::Negative => 0,
+        Some(n) => n,
+        None => 0,
     }
 }
 
@@ -25,8 +23,8 @@ pub fn over_count(count: i32) -> bool
     ensures { result ≡ over_count count }
 {
     match cells::sign_of(count) {
-        Sign::Natural(n) => 16 < n,
-        Sign::Negative => true,
+        Some(n) => 16 < n,
+        None => true,
     }
 }
 
@@ -35,8 +33,8 @@ pub fn list_count(count: i32) -> usize
     ensures { result ≡ list_count count }
 {
     match cells::sign_of(count) {
-        Sign::Natural(n) => { if n <= 16 { n } else { 0 } }
-        Sign::Negative => 0,
+        Some(n) => { if n <= 16 { n } else { 0 } }
+        None => 0,
     }
 }
 
@@ -48,8 +46,8 @@ pub fn up_to(s: &[i32], at: usize, limit: usize) -> bool
         return true;
     }
     match cells::sign_at(s, at) {
-        Sign::Natural(n) => n <= limit,
-        Sign::Negative => false,
+        Some(n) => n <= limit,
+        None => false,
     }
 }
 
@@ -57,12 +55,10 @@ pub fn up_to(s: &[i32], at: usize, limit: usize) -> bool
 pub fn good_components(s: &[i32]) -> bool
     ensures { result ≡ good_components s.now }
 {
-    let mut k = 0;
-    while k < s.len() {
+    for k in 0..s.len() {
         if !up_to(s, k, 65535) {
             return false;
         }
-        k += 1;
     }
     true
 }
@@ -71,10 +67,7 @@ pub fn good_components(s: &[i32]) -> bool
 pub fn good_index(s: &[i32], n: usize) -> bool
     ensures { result ≡ good_index s.now n }
 {
-    if s.len() != n {
-        return false;
-    }
-    good_components(s)
+    s.len() == n && good_components(s)
 }
 
 // Whether a count is one of indices, and the numbers are so many, of r components each.
@@ -95,14 +88,5 @@ pub fn good_indices(s: &[i32], n: usize, r: usize) -> bool
 pub fn comparable(a: &[i32], b: &[i32]) -> bool
     ensures { result ≡ comparable_indices a.now b.now }
 {
-    if a.len() != b.len() {
-        return false;
-    }
-    if 4 < a.len() {
-        return false;
-    }
-    if !good_components(a) {
-        return false;
-    }
-    good_components(b)
+    a.len() == b.len() && a.len() <= 4 && good_components(a) && good_components(b)
 }

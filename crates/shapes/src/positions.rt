@@ -17,10 +17,8 @@ pub fn ravel(index: &[i32], shape: &[i32]) -> usize
     ensures { result ≡ ravel_index (naturals index.now) (shape_in shape.now) }
 {
     let mut number: usize = 0;
-    let mut k = 0;
-    while k < index.len() {
+    for k in 0..index.len() {
         number = number * extent(shape, k) + natural_at(index, k);
-        k += 1;
     }
     number
 }

@@ -1,4 +1,6 @@
 -- `stretch_into` and `stretch_to_rank`: each answer is the rule's. Assumes nothing.
+use Rattle.std.specs.Prelude.{Err, Ok, Result, ⊤}
+use Rattle.rules.specs.declared.Refusal.{Refusal}
 use mathlib.Core.Path.{◌≡◌, refl, sym, ap, ◌∙◌}
 use mathlib.Core.Bool.{Bool, true, false, not, ◌&&◌}
 use mathlib.Core.List.{List}
@@ -6,15 +8,13 @@ use mathlib.Core.Logic.{inl}
 use Prim.Native.Nat.{ℕ, ◌+◌, ◌-◌, ◌<◌, ◌≤◌}
 use native.Mathlib.Nat.{le_trans}
 use native.Mathlib.Omega.{arith}
-use borrow.Author.Tests.{eqb-true, leb-true, le-leb, not-true, not-false}
+use borrow.Author.Tests.{eqb-true, leb-true, le-leb, not-true}
 use lib.Dec.{eqb}
 use lib.IntN.{ℤ}
 use lib.ListN.{length, get_or, take, drop, length-take}
 use Rattle.rules.specs.declared.Head.{Head}
 use Rattle.rules.specs.declared.Mode.{Mode}
 use Rattle.rules.specs.declared.Refusal.TheVariants.{ShapesDisagree, DenseAxes, MadeUnsound, MadeTooLarge}
-use Rattle.rules.specs.declared.Step.{Step}
-use Rattle.rules.specs.declared.Step.TheVariants.{Done, Refused}
 use Rattle.rules.specs.Limits.{product_limit}
 use Rattle.rules.specs.Lists.{implies, all, fit_to}
 use Rattle.rules.specs.Refusals.{Verdict, given, number_of}
@@ -41,7 +41,7 @@ use Rattle.parts.specs.Answers.{Says}
 use Rattle.parts.proofs.Saying.{says_refused}
 use Rattle.moving.specs.Sections.{HeadAsked, HeadMade}
 use Rattle.stretch.specs.Spread.{extents_in}
-use Rattle.stretch.specs.Layouts.{StretchAsked, FillAsked, TablesMade}
+use Rattle.stretch.specs.Layouts.{StretchAsked, TablesMade}
 
 -- what does not both hold and fail is implied
 not_both : (p q : Bool) → p && not q ≡ false → implies p q ≡ true
@@ -89,16 +89,16 @@ module _ {h : Head} {src : List ℤ} {at n : ℕ} {shape : List ℤ} (a : Stretc
     told = rw (shape_is a.source) (sym e)
 
     -- shared axes do not fit: 6
-    pub disagrees : (mode : Mode) → not r ≡ true → (s : List ℤ) → Says (answer mode) 0 s (Refused ShapesDisagree)
+    pub disagrees : (mode : Mode) → r ≡ false → (s : List ℤ) → Says (answer mode) 0 s (Err ShapesDisagree)
     unfolding number_of
-    disagrees mode f s = says_refused ShapesDisagree 0 _ (stretch_disagrees mode (layout_in src) new (told ∙ not-true r f))
+    disagrees mode f s = says_refused ShapesDisagree 0 _ (stretch_disagrees mode (layout_in src) new (told ∙ f))
 
-    module _ (f : not r ≡ false) where
+    module _ (f : r ≡ true) where
       fits : shared_axes_fit (layout_in src).shape new ≡ true
-      fits = told ∙ not-false r f
+      fits = told ∙ f
 
       -- D would fall below 0: 11
-      pub bars : (mode : Mode) → n < h.width → (s : List ℤ) → Says (answer mode) 0 s (Refused DenseAxes)
+      pub bars : (mode : Mode) → n < h.width → (s : List ℤ) → Says (answer mode) 0 s (Err DenseAxes)
       unfolding number_of
       bars mode g s = says_refused DenseAxes 0 _ (stretch_bars mode (layout_in src) new fits (omega (arith, new_length, sum_is a.source)))
 
@@ -106,15 +106,12 @@ module _ {h : Head} {src : List ℤ} {at n : ℕ} {shape : List ℤ} (a : Stretc
         stretches : Stretches (layout_in src) new
         stretches = record { fits = fits; room = omega (arith, new_length, sum_is a.source) }
 
-        pub ask_bends : (0 < length src) × (at + h.width ≤ length shape)
-        ask_bends = (some a.source, omega (arith, a.shapes.new_in))
-
         front : take (width (layout_in src)) new ≡ row_at at h.width shape
         front = rw (width_is a.source) (sym (front_row at h.width n shape wide))
 
         module _ {b : Bool} (is : b ≡ eqb (get_or (view src) 0 0) 1 && not (alike (row_at at h.width shape))) where
           -- a diagonal whose axes would not be alike: 12
-          pub breaks : (mode : Mode) → b ≡ true → (s : List ℤ) → Says (answer mode) 0 s (Refused MadeUnsound)
+          pub breaks : (mode : Mode) → b ≡ true → (s : List ℤ) → Says (answer mode) 0 s (Err MadeUnsound)
           unfolding number_of
           breaks mode g s =
               let k = both_true (eqb (get_or (view src) 0 0) 1) (not (alike (row_at at h.width shape))) (sym is ∙ g) in
@@ -138,14 +135,6 @@ module _ {h : Head} {src : List ℤ} {at n : ℕ} {shape : List ℤ} (a : Stretc
               (written : HeadMade kind (n - h.width) (view (take (at + n - at) (drop at shape))) s₀ s) where
             m : HeadMade (get_or (view src) 0 0) (n - h.width) new s₀ s
             m = rw (kind_is, lent_row at n shape, view_part at n shape) at written
-
-            pub ask_fill : FillAsked h src at n shape s
-            ask_fill = record {
-              asked = a;
-              fits = rw (← shape_is a.source) fits;
-              wide = wide;
-              room = rw m.only.size room;
-            }
 
             straight : implies (is_diagonal (layout_in src)) (alike (take (width (layout_in src)) new)) ≡ true
             straight = rw (front, kind_shown a.source) (not_both (eqb (get_or (view src) 0 0) 1) (alike (row_at at h.width shape)) (sym is ∙ g))
@@ -178,7 +167,7 @@ module _ {h : Head} {src : List ℤ} {at n : ℕ} {shape : List ℤ} (a : Stretc
                   rw (kind_there, dense_there, rank_there, narrow, shape_there, p.rows d, p.states d, p.inputs d)
 
               -- it is made
-              pub is_made : z ≡ true → Says (answer mode) 0 t Done
+              pub is_made : z ≡ true → Says (answer mode) 0 t (Ok tt)
               unfolding stretched
               is_made d =
                   let is : answer mode ≡ given (layout_at 0 t) = answer_is mode ∙ rw (← p.verdict, d) (ap given (sym (layout_there d))) in
@@ -192,7 +181,7 @@ module _ {h : Head} {src : List ℤ} {at n : ℕ} {shape : List ℤ} (a : Stretc
                   }
 
               -- or too large: 13
-              pub too_large : z ≡ false → Says (answer mode) 0 t (Refused MadeTooLarge)
+              pub too_large : z ≡ false → Says (answer mode) 0 t (Err MadeTooLarge)
               unfolding number_of stretched
               too_large d = says_refused MadeTooLarge 0 _ (answer_is mode ∙ rw (← p.verdict, d))
 
@@ -207,11 +196,11 @@ module _ {h : Head} {src : List ℤ} {n : ℕ} (q : SoundRecord h src × (n ≤ 
     cut_told = rw (shape_is q.0) (sym e)
 
     -- a cut axis is not 1: 6
-    pub cut_disagrees : (mode : Mode) → not b ≡ true → (s : List ℤ) → Says (broadcast_to_rank mode (layout_in src) n) 0 s (Refused ShapesDisagree)
+    pub cut_disagrees : (mode : Mode) → b ≡ false → (s : List ℤ) → Says (broadcast_to_rank mode (layout_in src) n) 0 s (Err ShapesDisagree)
     unfolding number_of
-    cut_disagrees mode f s = says_refused ShapesDisagree 0 _ (rank_disagrees mode (layout_in src) n (cut_told ∙ not-true b f))
+    cut_disagrees mode f s = says_refused ShapesDisagree 0 _ (rank_disagrees mode (layout_in src) n (cut_told ∙ f))
 
-    module _ (f : not b ≡ false) (extents : List ℤ) (long : length extents ≡ 4) (is : row_at 0 n extents ≡ fit_to n 1 (extents_in h.rank src)) where
+    module _ (f : b ≡ true) (extents : List ℤ) (long : length extents ≡ 4) (is : row_at 0 n extents ≡ fit_to n 1 (extents_in h.rank src)) where
       pub ask_stretch : StretchAsked h src 0 n extents
       unfolding within_product
       ask_stretch = record {
@@ -228,10 +217,10 @@ module _ {h : Head} {src : List ℤ} {n : ℕ} (q : SoundRecord h src × (n ≤ 
       }
 
       -- what the step says is said of the rank
-      pub rank_said : (mode : Mode) {t : List ℤ} {step : Step} → Says (broadcast_to_shape mode (layout_in src) (row_at 0 n extents)) 0 t step → Says (broadcast_to_rank mode (layout_in src) n) 0 t step
+      pub rank_said : (mode : Mode) {t : List ℤ} {step : (Result ⊤ Refusal)} → Says (broadcast_to_shape mode (layout_in src) (row_at 0 n extents)) 0 t step → Says (broadcast_to_rank mode (layout_in src) n) 0 t step
       rank_said mode p =
           let new : row_at 0 n extents ≡ fit_to n 1 (layout_in src).shape = is ∙ ap (fit_to n 1) (sym (shape_is q.0)) in
-          rw (rank_stretches mode (layout_in src) n (cut_told ∙ not-false b f), ← new) p
+          rw (rank_stretches mode (layout_in src) n (cut_told ∙ f), ← new) p
 
 -- ---- what is asked
 

@@ -16,9 +16,8 @@ use Rattle.rules.proofs.Gathering.{gather_append}
 use Rattle.rules.proofs.Replaced.{fit_low}
 use Rattle.tables.specs.Rows.{row_at, rows_at, HasRow, HasRows}
 use Rattle.tables.specs.Tables.{Taken, Listed}
-use Rattle.tables.proofs.Rows.{row_length, row_ends, has_row, rows_more, rows_none}
+use Rattle.tables.proofs.Rows.{row_length, has_row, rows_more, rows_none}
 use Rattle.tables.proofs.Taking.{taken_none, cleared_ready, cleared_listed}
-use Rattle.moving.specs.Fitting.{FitAsked}
 use Rattle.stretch.specs.Spread.{Shapes, extents_in}
 use Rattle.stretch.specs.Tables.{in_turn, EntryAsked, DepsAsked, yielded}
 use Rattle.stretch.proofs.InTurn.{turn_more, taken_turn, taken_halt}
@@ -64,14 +63,8 @@ module _ {mode : Mode} {first count old : ℕ} {src : List ℤ} {at rank : ℕ} 
 
     module _ (h : i < count) where
       -- where dependency i stands
-      pub place_ends : first + i * (old + 1) + (old + 1) ≤ length src
-      place_ends = omega (arith, row_ends (old + 1) h, g.rows.room)
-
       there : HasRow (first + i * (old + 1)) (old + 1) src
       there = has_row first (old + 1) count src g.rows i h
-
-      pub ask_fit : FitAsked (first + i * (old + 1)) old rank src
-      ask_fit = record { room = omega (arith, place_ends); old_few = g.shapes.old_few; rank_few = g.shapes.new_few }
 
       module _ (entry : List ℤ) (long : length entry ≡ 5) (is : row_at 0 (rank + 1) entry ≡ on_index (fit_to rank 0) (row_at (first + i * (old + 1)) (old + 1) src)) where
         pub ask_entry : EntryAsked entry old src at rank shape to t

@@ -1,11 +1,10 @@
 -- `fill`: the tables of the part are those of the stretched layout. Assumes nothing.
 use mathlib.Core.Path.{◌≡◌, refl, sym, ap, ◌∙◌}
-use mathlib.Core.Bool.{Bool, true, false, not}
+use mathlib.Core.Bool.{Bool, true, false}
 use mathlib.Core.List.{List}
 use mathlib.Core.Logic.{inl}
 use Prim.Native.Nat.{ℕ, ◌+◌}
 use native.Mathlib.Omega.{arith}
-use borrow.Author.Tests.{not-true, not-false}
 use lib.IntN.{ℤ}
 use lib.ListN.{length}
 use Rattle.rules.specs.declared.Head.{Head}
@@ -102,12 +101,11 @@ module _ {h : Head} {src : List ℤ} {at n : ℕ} {shape s : List ℤ} (a : Fill
       rows_only = let b = lies source in only_wider p.only rows_from states_from (omega arith) (omega (arith, b.narrow, b.rank_few))
 
       -- they are too many
-      pub rows_over : (mode : Mode) → not r ≡ true → TablesMade mode (layout_in src) new s t false
+      pub rows_over : (mode : Mode) → r ≡ false → TablesMade mode (layout_in src) new s t false
       rows_over mode e =
-          let f = not-true r e in
           rw (layout_shown source)
           (record {
-            verdict = rw (sym rows_verdict ∙ f);
+            verdict = rw (sym rows_verdict ∙ e);
             rows = λ x. absurd (true_not_false x refl);
             states = λ x. absurd (true_not_false x refl);
             inputs = λ x. absurd (true_not_false x refl);
@@ -116,7 +114,7 @@ module _ {h : Head} {src : List ℤ} {at n : ℕ} {shape s : List ℤ} (a : Fill
 
       -- ---- dependencies on states
 
-      module _ (e : not r ≡ false) where
+      module _ (e : r ≡ true) where
         pub ask_states : DepsAsked h.states.first h.states.count h.rank src at n shape states_from t
         ask_states = record {
           rows = has_states source.readable;
@@ -141,12 +139,11 @@ module _ {h : Head} {src : List ℤ} {at n : ℕ} {shape s : List ℤ} (a : Fill
           both_only = only_then (only_wider rows_only rows_from inputs_from (omega arith) (omega arith)) (only_wider states_only rows_from inputs_from (omega arith) (omega arith))
 
           -- they are too many
-          pub states_over : not q ≡ true → TablesMade mode (layout_in src) new s u false
+          pub states_over : q ≡ false → TablesMade mode (layout_in src) new s u false
           states_over f =
-              let g = not-true q f in
               rw (layout_shown source)
               (record {
-                verdict = rw (sym rows_verdict ∙ not-false r e, sym states_verdict ∙ g);
+                verdict = rw (sym rows_verdict ∙ e, sym states_verdict ∙ f);
                 rows = λ x. absurd (true_not_false x refl);
                 states = λ x. absurd (true_not_false x refl);
                 inputs = λ x. absurd (true_not_false x refl);
@@ -155,7 +152,7 @@ module _ {h : Head} {src : List ℤ} {at n : ℕ} {shape s : List ℤ} (a : Fill
 
           -- ---- dependencies on inputs
 
-          module _ (f : not q ≡ false) where
+          module _ (f : q ≡ true) where
             pub ask_inputs : DepsAsked h.inputs.first h.inputs.count h.rank src at n shape inputs_from u
             ask_inputs = record {
               rows = has_inputs source.readable;
@@ -183,21 +180,21 @@ module _ {h : Head} {src : List ℤ} {at n : ℕ} {shape s : List ℤ} (a : Fill
               rows_stay =
                   let b = lies source in
                   rw width_is
-                  (table_outside later_only rows_from h.width (p.ready (not-false r e)).fits.few (inl (omega (arith, b.narrow, b.rank_few))))
+                  (table_outside later_only rows_from h.width (p.ready e).fits.few (inl (omega (arith, b.narrow, b.rank_few))))
 
               states_stay : table_at states_from (length new + 1) v ≡ table_at states_from (length new + 1) u
               states_stay =
                   rw new_length
-                  (table_outside inputs_only states_from (n + 1) (d.ready (not-false q f)).fits.few (inl (omega (arith, a.asked.shapes.new_few))))
+                  (table_outside inputs_only states_from (n + 1) (d.ready f).fits.few (inl (omega (arith, a.asked.shapes.new_few))))
 
               -- all three tables
               pub tables_made : TablesMade mode (layout_in src) new s v z
               tables_made =
                   rw (layout_shown source)
                   (record {
-                    verdict = rw (sym rows_verdict ∙ not-false r e, sym states_verdict ∙ not-false q f) inputs_verdict;
-                    rows = λ x. rows_stay ∙ rows_table (not-false r e);
-                    states = λ x. states_stay ∙ states_table (not-false q f);
+                    verdict = rw (sym rows_verdict ∙ e, sym states_verdict ∙ f) inputs_verdict;
+                    rows = λ x. rows_stay ∙ rows_table e;
+                    states = λ x. states_stay ∙ states_table f;
                     inputs = inputs_table;
                     only = only_then (only_wider both_only rows_from part_size (omega arith) (omega arith)) (only_wider inputs_only rows_from part_size (omega arith) (omega arith));
                   })

@@ -14,6 +14,5 @@ pub mod Within
 pub mod Together
 pub mod Moves
 pub mod ListedRows
-pub mod Bending
 pub mod Filling
 pub mod Assembled

@@ -23,7 +23,7 @@ use Rattle.axes.specs.Extents.{Extents}
 use Rattle.axes.proofs.Indices.{unravel_position}
 use Rattle.parts.specs.Parts.{rows_from}
 use Rattle.stretch.specs.Spread.{plus}
-use Rattle.stretch.specs.Tables.{in_turn, AddAsked, TurnAsked, Turned, MovesAsked, RowsAsked, moved_rows}
+use Rattle.stretch.specs.Tables.{in_turn, AddAsked, Turned, MovesAsked, RowsAsked, moved_rows}
 use Rattle.stretch.proofs.InTurn.{taken_turn, taken_halt}
 use Rattle.stretch.proofs.StretchedAxes.{within_small}
 use Rattle.stretch.proofs.Plus.{plus_at, moved_by, number_inside, index_length, moved_under, ask_add}
@@ -67,9 +67,6 @@ module _ {at w : ℕ} {src extents : List ℤ} {size to : ℕ} {s : List ℤ} wh
   }
 
   module _ {number : ℕ} {index t : List ℤ} (g : Moving at w src extents size to number index s t) where
-    pub move_done : size ≤ number → Taken to w (in_turn (moved_by (row_at at w src) (row_at 0 w extents)) size) s t true
-    move_done h = let u = g.upto in let e : number ≡ size = omega arith in rw e at g.taken
-
     pub can_move : Ready to w t
     can_move = g.taken.ready refl
 
@@ -86,9 +83,6 @@ module _ {at w : ℕ} {src extents : List ℤ} {size to : ℕ} {s : List ℤ} wh
 
       pub ask_sum : AddAsked at w src index
       ask_sum = ask_add g.asked h g.long index_is
-
-      pub ask_turn : TurnAsked w extents index
-      ask_turn = record { room = omega (arith, g.long, g.asked.narrow); extents_are = g.asked.extents_are; below = g.below h }
 
       module _ (row : List ℤ) (long : length row ≡ 5) (sum : row_at 0 w row ≡ plus (row_at at w src) (row_at 0 w index)) where
         is : row_at 0 w row ≡ plus (row_at at w src) (unravel number (row_at 0 w extents))

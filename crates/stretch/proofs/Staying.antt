@@ -1,11 +1,13 @@
 -- Where no axis stretches, rows and dependencies stay as they are: `same_shape`, `stretch_rows` and `stretch_deps`. Assumes nothing.
 use mathlib.Core.Path.{◌≡◌, refl, sym, ap, ◌∙◌}
-use mathlib.Core.Bool.{Bool, true, false}
+use mathlib.Core.Bool.{Bool, true}
 use mathlib.Core.List.{List, [], ◌∷◌}
 use Prim.Native.Nat.{ℕ, ◌+◌, ◌^◌, ◌<◌, ◌≤◌}
 use native.Mathlib.Nat.{add-zero, zero-div, zero-mod}
 use native.Mathlib.Numerals.{add-one}
 use native.Mathlib.Omega.{arith}
+use borrow.Author.Tests.{ne_eqb}
+use lib.Dec.{eqb}
 use lib.IntN.{ℤ}
 use lib.ListN.{length, get_or, get_or-eq_default}
 use Rattle.rules.specs.declared.Mode.{Mode}
@@ -34,8 +36,8 @@ module _ {old : ℕ} {src : List ℤ} {at rank : ℕ} {shape : List ℤ} (a : Sh
   new_length : length (row_at at rank shape) ≡ rank
   new_length = row_length at rank shape a.new_in
 
-  pub other_rank : (old ≡ rank → ⊥) → false ≡ same (extents_in old src) (row_at at rank shape)
-  other_rank d = sym (lengths_differ (extents_in old src) (row_at at rank shape) (λ e. d (sym old_length ∙ e ∙ new_length)))
+  pub other_rank : (old ≡ rank → ⊥) → eqb old rank ≡ same (extents_in old src) (row_at at rank shape)
+  other_rank d = ne_eqb old rank d ∙ sym (lengths_differ (extents_in old src) (row_at at rank shape) (λ e. d (sym old_length ∙ e ∙ new_length)))
 
   module _ {b : Bool} (told : b ≡ same (extents_in old src) (row_at at rank shape)) (e : b ≡ true) where
     same_extents : extents_in old src ≡ row_at at rank shape

@@ -7,8 +7,8 @@ use Prim.Native.Nat.{ℕ, ◌+◌, ◌^◌, ◌<◌, ◌≤◌}
 use native.Mathlib.Nat.{zero-add, le_trans}
 use native.Mathlib.Numerals.{add-one}
 use native.Mathlib.Omega.{arith}
-use borrow.Author.Tests.{eq-eqb, ne_eqb, le-leb, lt-leb, leb-true, not-true, not-false}
-use lib.Dec.{eqb}
+use borrow.Author.Tests.{eq-eqb, ne_eqb, le-leb, lt-leb, leb-true}
+use lib.Dec.{eqb, leb}
 use lib.IntN.{ℤ, pos}
 use lib.ListN.{length, get_or, drop, set, replicate, length-set, get_or-replicate, drop_of_length-le}
 use lib.Seq.{get_or-drop, get_or-take, get_or-set_other, drop-cons, take-suc-set}
@@ -28,14 +28,6 @@ use Rattle.stretch.proofs.InTurn.{from_more}
 
 -- ---- one extent: `axis_fits`
 
--- 1 fits any
-pub fits_one : (e n : ℕ) → e ≡ 1 → true ≡ eqb e 1 || eqb e n
-fits_one e n h = rw (eq-eqb e 1 h)
-
--- another one fits itself
-pub fits_other : (e n : ℕ) → (e ≡ 1 → ⊥) → eqb e n ≡ eqb e 1 || eqb e n
-fits_other e n h = rw (ne_eqb e 1 h)
-
 -- ---- one axis: `is_stretched` and `values`
 
 module _ (old : ℕ) (s : List ℤ) (room : 3 + old ≤ length s) (at : ℕ) (t : List ℤ) (axis : ℕ) where
@@ -43,7 +35,7 @@ module _ (old : ℕ) (s : List ℤ) (room : 3 + old ≤ length s) (at : ℕ) (t 
   told = is_stretched (extents_in old s) (drop at (view t)) axis
 
   -- an axis that is added
-  pub added_axis : old ≤ axis → true ≡ told
+  pub added_axis : old ≤ axis → leb old axis ≡ told
   added_axis h = rw (row_length 3 old s room, le-leb old axis h)
 
   module _ (h : axis < old) {x : ℕ} (e : x ≡ get_or (view s) (3 + axis) 0) where
@@ -51,20 +43,12 @@ module _ (old : ℕ) (s : List ℤ) (room : 3 + old ≤ length s) (at : ℕ) (t 
     old_extent = row_number 3 old axis s h ∙ sym e
 
     -- one whose extent was not 1
-    pub wide_axis : (x ≡ 1 → ⊥) → false ≡ told
+    pub wide_axis : (x ≡ 1 → ⊥) → eqb x 1 ≡ told
     wide_axis n = rw (row_length 3 old s room, lt-leb old axis h, old_extent, ne_eqb x 1 n)
 
     -- one whose extent was 1
     pub narrow_axis : x ≡ 1 → {y : ℕ} → y ≡ get_or (view t) (at + axis) 0 → not (eqb y 1) ≡ told
     narrow_axis o f = rw (row_length 3 old s room, lt-leb old axis h, old_extent, eq-eqb x 1 o, get_or-drop, ← f)
-
-  -- how many values it takes
-  pub takes_all : {b : Bool} → b ≡ told → b ≡ true → {y : ℕ} → y ≡ get_or (view t) (at + axis) 0 → y ≡ values_on (extents_in old s) (drop at (view t)) axis
-  takes_all e f g = rw (sym e ∙ f) (g ∙ sym (get_or-drop at (view t) axis 0))
-
-  -- or one
-  pub takes_one : {b : Bool} → b ≡ told → b ≡ false → 1 ≡ values_on (extents_in old s) (drop at (view t)) axis
-  takes_one e f = rw (sym e ∙ f)
 
 -- the extents from a place on are read as those of the shape there
 pub same_axis : (old : List ℕ) (at rank : ℕ) (t : List ℤ) (axis : ℕ) → axis < rank → is_stretched old (drop at (view t)) axis ≡ is_stretched old (row_at at rank t) axis
@@ -111,11 +95,11 @@ module _ {old : ℕ} {s : List ℤ} {at rank : ℕ} {t : List ℤ} {both : ℕ} 
           g.eq ∙ next_fits (extents_in old s) (row_at at rank t) k (omega arith) (omega arith)
           ∙ rw (row_number 3 old k s (omega arith), row_number at rank k t (omega arith), ← e, ← f, ← told)
 
-      pub share_turn : not r ≡ false → Sharing old s at rank t both (k + 1)
-      share_turn l = record { shapes = g.shapes; smaller = g.smaller; upto = omega arith; eq = next ∙ rw (not-false r l) }
+      pub share_turn : r ≡ true → Sharing old s at rank t both (k + 1)
+      share_turn l = record { shapes = g.shapes; smaller = g.smaller; upto = omega arith; eq = next ∙ rw l }
 
-      pub share_stop : not r ≡ true → false ≡ shared_axes_fit (extents_in old s) (row_at at rank t)
-      share_stop l = sym (next ∙ rw (not-true r l))
+      pub share_stop : r ≡ false → false ≡ shared_axes_fit (extents_in old s) (row_at at rank t)
+      share_stop l = sym (next ∙ rw l)
 
     pub share_done : both ≤ k → true ≡ shared_axes_fit (extents_in old s) (row_at at rank t)
     unfolding shared_axes_fit

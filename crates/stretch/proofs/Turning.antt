@@ -98,12 +98,6 @@ module _ {w : ℕ} {extents s : List ℤ} where
     }
 
   module _ {k : ℕ} {t : List ℤ} (g : Turning w extents k s t) where
-    pub turn_done : k ≤ 0 → Turned w extents s t
-    turn_done h =
-        let none : k ≡ 0 = omega arith in
-        let was-last : ravel_index (row_at 0 w s) (row_at 0 w extents) + 1 ≡ product (row_at 0 w extents) = rw none at g.last in
-        record { next = λ l. absurd (omega arith); below = λ l. absurd (omega arith) }
-
     module _ (h : 0 < k) where
       in_row : k - 1 < w
       in_row = omega (arith, g.upto)

@@ -25,13 +25,11 @@ fn put_values(
     ensures { Taken to w (in_turn (λ v. with axis v (row_at 0 w entry) ∷ []) extent) part.old part.new result }
 {
     let mut row = entry;
-    let mut value = 0;
-    while value < extent {
+    for value in 0..extent {
         cells::store(&mut row, axis, value);
         if !tables::put_row(part, to, w, &row, 0) {
             return false;
         }
-        value += 1;
     }
     true
 }
@@ -76,12 +74,10 @@ fn put_alone(
     if !tables::put_row(part, to, rank + 1, &entry, 0) {
         return false;
     }
-    let mut axis = 0;
-    while axis < rank {
+    for axis in 0..rank {
         if !put_axis(entry, axis, from, old, shape, at, rank, part, to) {
             return false;
         }
-        axis += 1;
     }
     true
 }
@@ -99,9 +95,9 @@ fn cleared(
     ensures { Cleared (extents_in old from.now) (row_at at rank shape.now) (row_at 0 (rank + 1) entry) (row_at 0 (rank + 1) result) }
 {
     let mut row = entry;
-    for axis in 0..rank {
-        if is_stretched(from, old, shape, at, axis) {
-            cells::store(&mut row, axis, 0);
+    for k in 0..rank {
+        if is_stretched(from, old, shape, at, k) {
+            cells::store(&mut row, k, 0);
         }
     }
     row
@@ -171,13 +167,11 @@ pub fn stretch_deps(
         return true;
     }
     cells::store(part, to, 0);
-    let mut i = 0;
-    while i < count {
+    for i in 0..count {
         let entry = moving::fitted(from, first + i * (old + 1), old, rank);
         if !put_yield(mode, entry, from, old, shape, at, rank, part, to) {
             return false;
         }
-        i += 1;
     }
     true
 }

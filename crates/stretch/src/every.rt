@@ -24,9 +24,7 @@ fn turn(index: &mut [i32], extents: &[i32], w: usize)
     requires { TurnAsked w extents.now index.old }
     ensures { Turned w extents.now index.old index.new }
 {
-    let mut k = w;
-    while 0 < k {
-        k -= 1;
+    for k in (0..w).rev() {
         let number = cells::low(index, k) + 1;
         if number < cells::low(extents, k) {
             cells::store(index, k, number);
@@ -50,14 +48,12 @@ pub fn put_moved(
     ensures { Taken to w (in_turn (λ n. plus (row_at at w from.now) (unravel n (row_at 0 w extents)) ∷ []) size) part.old part.new result }
 {
     let mut index = [0i32; 5];
-    let mut number = 0;
-    while number < size {
+    for _number in 0..size {
         let row = added(from, at, w, index);
         if !tables::put_row(part, to, w, &row, 0) {
             return false;
         }
         turn(&mut index, &extents, w);
-        number += 1;
     }
     true
 }

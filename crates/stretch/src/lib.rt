@@ -20,7 +20,7 @@ ghost use Rattle.stretch.specs.Layouts.{StretchAsked, FillAsked, TablesMade};
 use deps::stretch_deps;
 use parts::{INPUTS, STATES};
 use rows::stretch_rows;
-use rules::{Head, Mode, Refusal, Step};
+use rules::{Head, Kind, Mode, Refusal};
 use spread::{cut_fit, fitted_extents, shared_fit, spread_extents};
 
 // The rows and both lists of dependencies go into the part; false where one of them is too long.
@@ -53,10 +53,10 @@ fn bends(from: &[i32], width: usize, shape: &[i32], at: usize) -> bool
     requires { (0 < length from.now) × (at + width ≤ length shape.now) }
     ensures { result ≡ (eqb (get_or (view from.now) 0 0) 1 && not (alike (row_at at width shape.now))) }
 {
-    if cells::get(from, records::KIND) != 1 {
-        return false;
+    match records::kind_at(from, records::KIND) {
+        Kind::Diagonal => !records::alike(shape, at, width),
+        _ => false,
     }
-    !records::alike(shape, at, width)
 }
 
 // The record stretched in a mode to the shape of `rank` extents at a place goes into the part.
@@ -68,37 +68,43 @@ pub fn stretch_into(
     at: usize,
     rank: usize,
     part: &mut [i32],
-) -> Step
+) -> Result<(), Refusal>
     requires stretch_asked { StretchAsked head from.now at rank shape.now }
     requires part_size_in_bounds { part_size ≤ length part.old }
     ensures { Says (broadcast_to_shape mode (layout_in from.now) (row_at at rank shape.now)) 0 part.new result }
 {
     if !shared_fit(from, head.rank, shape, at, rank) {
-        return Step::Refused(Refusal::ShapesDisagree);
+        return Err(Refusal::ShapesDisagree);
     }
     if rank < head.width {
-        return Step::Refused(Refusal::DenseAxes);
+        return Err(Refusal::DenseAxes);
     }
     if bends(from, head.width, shape, at) {
-        return Step::Refused(Refusal::MadeUnsound);
+        return Err(Refusal::MadeUnsound);
     }
     let kind = cells::get(from, records::KIND);
     let end = at + rank;
     moving::write_head(part, kind, rank - head.width, &shape[at..end]);
     if fill(mode, from, head, shape, at, rank, part) {
-        return Step::Done;
+        return Ok(());
     }
-    Step::Refused(Refusal::MadeTooLarge)
+    Err(Refusal::MadeTooLarge)
 }
 
 // The record stretched in a mode, or cut, to a rank goes into the part.
-pub fn stretch_to_rank(mode: Mode, from: &[i32], head: Head, rank: usize, part: &mut [i32]) -> Step
+pub fn stretch_to_rank(
+    mode: Mode,
+    from: &[i32],
+    head: Head,
+    rank: usize,
+    part: &mut [i32],
+) -> Result<(), Refusal>
     requires sound_record { SoundRecord head from.now × (rank ≤ 4) }
     requires part_size_in_bounds { part_size ≤ length part.old }
     ensures { Says (broadcast_to_rank mode (layout_in from.now) rank) 0 part.new result }
 {
     if !cut_fit(from, head.rank, rank) {
-        return Step::Refused(Refusal::ShapesDisagree);
+        return Err(Refusal::ShapesDisagree);
     }
     let extents = fitted_extents(from, head.rank, rank);
     stretch_into(mode, from, head, &extents, 0, rank, part)

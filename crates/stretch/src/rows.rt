@@ -25,12 +25,10 @@ pub fn stretch_rows(
         return true;
     }
     cells::store(part, parts::ROWS, 0);
-    let mut i = 0;
-    while i < count {
+    for i in 0..count {
         if !put_moved(from, first + i * w, w, extents, size, part, parts::ROWS) {
             return false;
         }
-        i += 1;
     }
     true
 }

@@ -12,10 +12,7 @@ use records::EXTENTS;
 fn axis_fits(extent: usize, new: usize) -> bool
     ensures { result ≡ (eqb extent 1 || eqb extent new) }
 {
-    if extent == 1 {
-        return true;
-    }
-    extent == new
+    extent == 1 || extent == new
 }
 
 // Whether each axis that both shapes have is 1 or equal.
@@ -23,7 +20,7 @@ pub fn shared_fit(from: &[i32], old: usize, shape: &[i32], at: usize, rank: usiz
     requires { Shapes old from.now at rank shape.now }
     ensures { result ≡ shared_axes_fit (extents_in old from.now) (row_at at rank shape.now) }
 {
-    let both = moving::smaller(old, rank);
+    let both = old.min(rank);
     for k in 0..both {
         if !axis_fits(cells::get(from, EXTENTS + k), cells::get(shape, at + k)) {
             return false;
@@ -37,10 +34,7 @@ pub fn same_shape(from: &[i32], old: usize, shape: &[i32], at: usize, rank: usiz
     requires { Shapes old from.now at rank shape.now }
     ensures { result ≡ same (extents_in old from.now) (row_at at rank shape.now) }
 {
-    if old != rank {
-        return false;
-    }
-    tables::same_numbers(from, EXTENTS, shape, at, rank)
+    old == rank && tables::same_numbers(from, EXTENTS, shape, at, rank)
 }
 
 // Whether each axis from a rank on has extent 1.
@@ -48,12 +42,10 @@ pub fn cut_fit(from: &[i32], old: usize, rank: usize) -> bool
     requires { 3 + old ≤ length from.now }
     ensures { result ≡ all (eqb 1) (drop rank (extents_in old from.now)) }
 {
-    let mut k = rank;
-    while k < old {
+    for k in rank..old {
         if cells::get(from, EXTENTS + k) != 1 {
             return false;
         }
-        k += 1;
     }
     true
 }
@@ -64,7 +56,7 @@ pub fn fitted_extents(from: &[i32], old: usize, rank: usize) -> [i32; 4]
     ensures { row_at 0 rank result ≡ fit_to rank 1 (extents_in old from.now) }
 {
     let mut extents = [1i32; 4];
-    let end = EXTENTS + moving::smaller(old, rank);
+    let end = EXTENTS + old.min(rank);
     cells::copy(&from[EXTENTS..end], &mut extents);
     extents
 }
@@ -74,13 +66,7 @@ pub fn is_stretched(from: &[i32], old: usize, shape: &[i32], at: usize, axis: us
     requires { (3 + old ≤ length from.now) × (at + axis < length shape.now) }
     ensures { result ≡ is_stretched (extents_in old from.now) (drop at (view shape.now)) axis }
 {
-    if old <= axis {
-        return true;
-    }
-    if cells::get(from, EXTENTS + axis) != 1 {
-        return false;
-    }
-    cells::get(shape, at + axis) != 1
+    old <= axis || (cells::get(from, EXTENTS + axis) == 1 && cells::get(shape, at + axis) != 1)
 }
 
 // How many values an axis takes: as many as its new extent says where it is stretched, 1 otherwise.
@@ -89,9 +75,10 @@ fn values(from: &[i32], old: usize, shape: &[i32], at: usize, axis: usize) -> us
     ensures { result ≡ values_on (extents_in old from.now) (drop at (view shape.now)) axis }
 {
     if is_stretched(from, old, shape, at, axis) {
-        return cells::get(shape, at + axis);
+        cells::get(shape, at + axis)
+    } else {
+        1
     }
-    1
 }
 
 // How many values each of the first w axes takes, and 1 behind them.

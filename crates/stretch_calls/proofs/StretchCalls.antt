@@ -1,4 +1,6 @@
 -- The shape or the rank that a record is stretched to, the mode, and that a refusal is above 2. Assumes nothing.
+use Rattle.std.specs.Prelude.{Result, ⊤}
+use Rattle.rules.specs.declared.Refusal.{Refusal}
 use mathlib.Core.Path.{◌≡◌, sym, ◌∙◌}
 use mathlib.Core.Bool.{Bool, true, false, not, ◌&&◌, ◌||◌}
 use mathlib.Core.List.{List, [], ◌∷◌}
@@ -10,7 +12,6 @@ use lib.ListN.{length}
 use Rattle.rules.specs.declared.Head.{Head}
 use Rattle.rules.specs.declared.Mode.{Mode}
 use Rattle.rules.specs.declared.Refusal.TheVariants.{WrongArgument}
-use Rattle.rules.specs.declared.Step.{Step}
 use Rattle.rules.specs.Refusals.{given, refused, number_of, Reason, ◌when◌, lowest}
 use Rattle.rules.specs.Layout.{Layout}
 use Rattle.rules.specs.Record.{layout_in, shape_in, good_shape}
@@ -65,13 +66,13 @@ module _ {x : Head} {s shape : List ℤ} (p : SoundRecord x s) (j : Judged shape
   shape_asked = ask_shape p (shape_extents shape j e.0) e.1
 
   -- the step was asked for the shape at its place, in the mode that was named
-  pub shape_said : {mode : ℤ} {way : Mode} → ModeGood mode way → {t : List ℤ} {step : Step} → Says (broadcast_to_shape way (layout_in s) (row_at 1 n shape)) 0 t step →
+  pub shape_said : {mode : ℤ} {way : Mode} → ModeGood mode way → {t : List ℤ} {step : (Result ⊤ Refusal)} → Says (broadcast_to_shape way (layout_in s) (row_at 1 n shape)) 0 t step →
       Says (broadcast_to_shape (mode_of mode) (layout_in s) (shape_in shape)) 0 t step
   shape_said m d = rw (shape_row shape j e.0, m.is) at d
 
 -- ---- a rank among the arguments
 
 -- the step was asked for the rank as a natural number, in the mode that was named
-pub rank_said : (l : Layout) {n m : ℕ} → n ≡ m → {mode : ℤ} {way : Mode} → ModeGood mode way → {t : List ℤ} {step : Step} → Says (broadcast_to_rank way l n) 0 t step →
+pub rank_said : (l : Layout) {n m : ℕ} → n ≡ m → {mode : ℤ} {way : Mode} → ModeGood mode way → {t : List ℤ} {step : (Result ⊤ Refusal)} → Says (broadcast_to_rank way l n) 0 t step →
     Says (broadcast_to_rank (mode_of mode) l m) 0 t step
 rank_said l e g d = rw (e, g.is) at d

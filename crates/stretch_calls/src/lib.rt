@@ -8,9 +8,7 @@ ghost use Rattle.rules.specs.Layout.{encode};
 ghost use Rattle.rules.specs.Endings.{Ends};
 ghost use Rattle.rules.specs.Stretching.{broadcast_to_shape_call, broadcast_to_rank_call, broadcast_to_shape_with_mode_call, broadcast_to_rank_with_mode_call};
 
-use cells::Sign;
-use judging::{ModeAsked, Sizes};
-use rules::{Refusal, Walk, Written};
+use rules::Refusal;
 
 // The record stretched to a shape in a mode, 0 or 1, goes to the result.
 pub fn broadcast_to_shape_with_mode(
@@ -19,20 +17,18 @@ pub fn broadcast_to_shape_with_mode(
     mode: i32,
     res: &mut [i32],
     work: &mut [i32],
-) -> Written
+) -> Result<usize, Refusal>
     ensures { Ends (in_form encode (broadcast_to_shape_with_mode_call «record».now shape.now mode (length res.old) (length work.old))) res.old work.old result res.new work.new }
 {
     let over = judging::either(records::over_record(record), shapes::over_shape(shape));
-    if let Sizes::Refused(why) = judging::judge_sizes(over, res.len(), work.len()) {
-        return Written::Refused(why);
-    }
-    let Walk::To(head) = records::sound_head(record) else {
+    judging::judge_sizes(over, res.len(), work.len())?;
+    let Some(head) = records::sound_head(record) else {
         return parts::refuse(Refusal::Unsound, work);
     };
     if !shapes::good_shape(shape) {
         return parts::refuse(Refusal::WrongArgument, work);
     }
-    let ModeAsked::Is(way) = judging::judge_mode(mode) else {
+    let Some(way) = judging::judge_mode(mode) else {
         return parts::refuse(Refusal::WrongArgument, work);
     };
     let rank = shapes::rank(shape);
@@ -46,7 +42,7 @@ pub fn broadcast_to_shape(
     shape: &[i32],
     res: &mut [i32],
     work: &mut [i32],
-) -> Written
+) -> Result<usize, Refusal>
     ensures { Ends (in_form encode (broadcast_to_shape_call «record».now shape.now (length res.old) (length work.old))) res.old work.old result res.new work.new }
 {
     broadcast_to_shape_with_mode(record, shape, 0, res, work)
@@ -59,20 +55,18 @@ pub fn broadcast_to_rank_with_mode(
     mode: i32,
     res: &mut [i32],
     work: &mut [i32],
-) -> Written
+) -> Result<usize, Refusal>
     ensures { Ends (in_form encode (broadcast_to_rank_with_mode_call «record».now rank mode (length res.old) (length work.old))) res.old work.old result res.new work.new }
 {
     let over = judging::either(records::over_record(record), judging::over_rank(rank));
-    if let Sizes::Refused(why) = judging::judge_sizes(over, res.len(), work.len()) {
-        return Written::Refused(why);
-    }
-    let Walk::To(head) = records::sound_head(record) else {
+    judging::judge_sizes(over, res.len(), work.len())?;
+    let Some(head) = records::sound_head(record) else {
         return parts::refuse(Refusal::Unsound, work);
     };
-    let Sign::Natural(axes) = cells::sign_of(rank) else {
+    let Some(axes) = cells::sign_of(rank) else {
         return parts::refuse(Refusal::WrongArgument, work);
     };
-    let ModeAsked::Is(way) = judging::judge_mode(mode) else {
+    let Some(way) = judging::judge_mode(mode) else {
         return parts::refuse(Refusal::WrongArgument, work);
     };
     let step = stretch::stretch_to_rank(way, record, head, axes, &mut work[0..parts::PART]);
@@ -80,7 +74,12 @@ pub fn broadcast_to_rank_with_mode(
 }
 
 // The record stretched to a rank, or cut to it where the axes behind it are 1, goes to the result.
-pub fn broadcast_to_rank(record: &[i32], rank: i32, res: &mut [i32], work: &mut [i32]) -> Written
+pub fn broadcast_to_rank(
+    record: &[i32],
+    rank: i32,
+    res: &mut [i32],
+    work: &mut [i32],
+) -> Result<usize, Refusal>
     ensures { Ends (in_form encode (broadcast_to_rank_call «record».now rank (length res.old) (length work.old))) res.old work.old result res.new work.new }
 {
     broadcast_to_rank_with_mode(record, rank, 0, res, work)

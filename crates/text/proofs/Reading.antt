@@ -1,5 +1,5 @@
 -- `read_numbers`: what the loop knows at each turn. Assumes nothing.
-use mathlib.Core.Path.{◌≡◌, refl, sym, ap, ◌∙◌, subst}
+use mathlib.Core.Path.{◌≡◌, refl, sym, ap, ◌∙◌}
 use mathlib.Core.Bool.{Bool, true, false}
 use mathlib.Core.List.{List, [], ◌∷◌, ◌++◌, append_assoc}
 use Prim.Native.Nat.{ℕ, suc, ◌+◌, ◌*◌, ◌<◌, ◌≤◌}
@@ -11,8 +11,7 @@ use lib.Seq.{drop-cons}
 use Rattle.rules.specs.Buffers.{over}
 use Rattle.rules.proofs.Buffers.{over_nil}
 use Rattle.rules.proofs.Writes.{put_over}
-use Rattle.text.specs.declared.Read.{Read}
-use Rattle.text.specs.declared.Read.TheVariants.{Numbers, Other}
+use Rattle.std.specs.Prelude.{Option, Some, None}
 use Rattle.text.specs.declared.Word.{Word}
 use Rattle.text.specs.declared.Word.TheVariants.{Nothing, Minus, Natural, Negative, Broken}
 use Rattle.text.specs.Read.{Reading, numbers, other, is_gap, both, read_text}
@@ -127,21 +126,20 @@ module _ {text : List ℕ} {old now : List ℤ} {word : Word} {n i : ℕ} (p : P
             rest = gap_rest ∙ rw (add-one, k.reads) (both_two p.list k.list (read_on Nothing (drop (suc i) text)));
           }
 
-      pub turn_gap : {r : Read} {m : ℕ} {after : List ℤ} → length after ≡ length now → Placed n (ending word) now after r → r ≡ Numbers m →
+      pub turn_gap : {r : Option ℕ} {m : ℕ} {after : List ℤ} → length after ≡ length now → Placed n (ending word) now after r → r ≡ Some m →
           Progress text old Nothing m (i + 1) after
       turn_gap {r} {m} {after} s k q = turn_number s (rw q at k)
 
-      pub stop_gap : (r : Read) (after : List ℤ) → Placed n (ending word) now after r → r ≡ Other → ReadInto text old after Other
-      stop_gap r after k q =
-          let none : ending word ≡ other = subst (λ (x : Read). Placed n (ending word) now after x) q k in gap_rest ∙ rw none
+      pub stop_gap : ending word ≡ other → read_text text ≡ other
+      stop_gap none = gap_rest ∙ rw none
 
   module _ (h : length text ≤ i) where
     end_rest : read_text text ≡ both (numbers p.list) (ending word)
     unfolding read_on
     end_rest = p.rest ∙ rw (drop_of_length-le text h)
 
-    pub done : (r : Read) (after : List ℤ) → Placed n (ending word) now after r → ReadInto text old after r
-    done (Numbers m) after k =
+    pub done : (r : Option ℕ) (after : List ℤ) → Placed n (ending word) now after r → ReadInto text old after r
+    done (Some m) after k =
         let b = number_begun word k.list k.reads in
         let c = k.count in
         let f = p.few in
@@ -152,6 +150,6 @@ module _ {text : List ℕ} {old now : List ℤ} {word : Word} {n i : ℕ} (p : P
           fits = omega (arith, begun_one word);
           is = k.is ∙ rw p.is (put_over n p.list k.list old p.count);
         }
-    done Other after k = end_rest ∙ rw k
+    done None after k = end_rest ∙ rw k
 
-pub ruleset laws = (start, has_room, turn_word, turn_gap, stop_gap, done)
+pub ruleset laws = (start, has_room, turn_word, turn_gap, done)

@@ -1,111 +1,45 @@
--- Numbers and lines are written: what each loop knows at each turn. Assumes nothing.
-use mathlib.Core.Path.{◌≡◌, refl, sym, ap, ◌∙◌, subst}
-use mathlib.Core.Bool.{Bool, true, false}
+-- Numbers and lines are written: what the library prints of a number, and what the loop knows at each turn. Assumes nothing.
+use mathlib.Core.Path.{◌≡◌, refl, sym, ap, ◌∙◌}
 use mathlib.Core.List.{List, [], ◌∷◌, ◌++◌}
-use Prim.Native.Nat.{ℕ, zero, suc, ◌+◌, ◌*◌, ◌-◌, ◌/◌, ◌%◌, ◌^◌, ◌<◌, ◌≤◌}
-use native.Mathlib.Nat.{pow-suc, mod-eq_of_lt, div-lt_iff_lt-mul}
+use Prim.Native.Nat.{ℕ, zero, suc, ◌+◌, ◌*◌, ◌-◌, ◌^◌, ◌<◌, ◌≤◌}
 use native.Mathlib.Numerals.{add-one}
 use native.Mathlib.Omega.{arith}
-use lib.Dec.{ltb}
-use lib.IntN.{ℤ, pos}
-use lib.ListN.{length, get_or, set, drop, length-append, length-set, drop_of_length-le}
-use lib.Seq.{drop-cons}
+use lib.IntN.{ℤ, pos, negsuc}
+use lib.ListN.{length, get_or, set, drop, length-append, drop_of_length-le}
+use lib.Seq.{drop-cons, drop-drop}
 use lib.Signed.{mag}
-use borrow.Author.Tests.{ltb-true, lt-ltb, le-ltb}
-use Rattle.rules.specs.Lists.{if}
+use borrow.Author.Tests.{lt-ltb, le-ltb}
+use borrow.Rule.Slice.PartMut.{put_mid}
+use Rattle.std.specs.Fmt.{decimal, signed_decimal}
+use Rattle.std.proofs.lemmas.Fmt.{AppendsLastDigit, decimal_from_appends, length-decimal-le}
 use Rattle.cells.proofs.Signed.{held, back}
-use Rattle.text.specs.Written.{digits_in, digits, rest_text, line_text}
-use Rattle.text.specs.Spelled.{places_in, last_digits, item_text}
+use Rattle.text.specs.Written.{digits_in, digits, number_text, rest_text, line_text, item_text}
 use Rattle.text.specs.Placed.{put_bytes, Wrote}
-use Rattle.text.proofs.Bytes.{put_nil, put_one, put_last, put_behind}
+use Rattle.text.proofs.Bytes.{put_one, put_behind}
 
--- ---- digits
+-- ---- `write_number`
 
-length_last : (k n : ℕ) → length (last_digits k n) ≡ k
-unfolding last_digits
-length_last zero n = refl
-length_last (suc k) n = length-append (last_digits k (n / 10)) ((48 + n % 10) ∷ []) ∙ rw (length_last k (n / 10)) (add-one k)
+digits_append : AppendsLastDigit digits_in
+unfolding digits_in
+digits_append = record { one = λ k n h. rw (lt-ltb n 10 h); more = λ k n h. rw (le-ltb n 10 h) }
 
--- the digits of a number are the last ones, as many as it has
-digits_last : (most n : ℕ) → digits_in most n ≡ last_digits (places_in most n) n
-unfolding digits_in last_digits places_in
-digits_last zero n = refl
-digits_last (suc most) n = go (ltb n 10) refl (digits_last most (n / 10))
-  where
-    go : (t : Bool) → ltb n 10 ≡ t → digits_in most (n / 10) ≡ last_digits (places_in most (n / 10)) (n / 10) →
-        if t ((48 + n) ∷ []) (digits_in most (n / 10) ++ ((48 + n % 10) ∷ [])) ≡ last_digits (if t 1 (suc (places_in most (n / 10)))) n
-    go true e ih = rw (mod-eq_of_lt (ltb-true n 10 e))
-    go false e ih = rw ih
+-- a number has the digits that the library prints
+printed : (n : ℕ) → n ≤ 2 ^ 31 → digits n ≡ decimal n
+printed n h = decimal_from_appends digits_in digits_append 10 n (omega arith) (length-decimal-le 10 n (omega arith) (omega arith) (omega arith))
 
-pub digits_wrote : (a n : ℕ) {k : ℕ} (old : List ℕ) {now : List ℕ} → k ≡ places_in 10 n → k ≤ 10 → now ≡ put_bytes a (last_digits k n) old → Wrote 10 a (digits n) old now (a + k)
-digits_wrote a n {k} old e l i =
-    let same : last_digits k n ≡ digits n = rw e (sym (digits_last 10 n)) in
-    let size : length (digits n) ≡ k = rw (← same) (length_last k n) in
-    record { short = omega arith; end = omega arith; is = i ∙ rw same }
+pub number_printed : (z : ℤ) → mag z < 2 ^ 31 → signed_decimal z ≡ number_text z
+unfolding number_text
+number_printed (pos n) h = sym (printed n (omega arith))
+number_printed (negsuc n) h = ap (λ (l : List ℕ). 45 ∷ l) (sym (printed (suc n) (omega arith)))
 
--- ---- `places`
-
--- k digits are counted, and the rest has at most so many
-pub record Counting (n k rest : ℕ) : Type 0 where
-  pub left : ℕ
-  pub most : k + left ≡ 10
-  pub low : rest < 10 ^ suc left
-  pub is : k + places_in (suc left) rest ≡ suc (places_in 10 n)
-
-pub places_start : (n : ℕ) → n ≤ 2 ^ 31 → Counting n 1 n
-places_start n h = record { left = 9; most = refl; low = omega arith; is = omega arith }
-
--- one digit less
-places_step : (n k rest left : ℕ) → k + left ≡ 10 → rest < 10 ^ suc left → k + places_in (suc left) rest ≡ suc (places_in 10 n) → 10 ≤ rest →
-    Counting n (k + 1) (rest / 10)
-unfolding places_in
-places_step n k rest zero m l e h = absurd (omega arith)
-places_step n k rest (suc left) m l e h =
-    let ten : 0 < 10 = omega arith in
-    let low : rest / 10 < 10 ^ suc left = (div-lt_iff_lt-mul {k = 10} {x = rest} {y = 10 ^ suc left} ten).1 (rw (pow-suc 10 (suc left)) at l) in
-    let is = rw (le-ltb rest 10 h) at e in
-    record { left = left; most = omega arith; low = low; is = omega arith }
-
-module _ {n k rest : ℕ} (c : Counting n k rest) where
-  pub places_turn : 10 ≤ rest → Counting n (k + 1) (rest / 10)
-  places_turn h = places_step n k rest c.left c.most c.low c.is h
-
-  pub places_done : rest < 10 → (k ≡ places_in 10 n) × (k ≤ 10)
-  unfolding places_in
-  places_done h = let is = rw (lt-ltb rest 10 h) at c.is in let m = c.most in (omega arith, omega arith)
-
--- ---- `spell`
-
--- the last digits are stored, and writing the first i of them makes all
-pub record Spelling (n k a : ℕ) (old : List ℕ) (i rest : ℕ) (now : List ℕ) : Type 0 where
-  pub upto : i ≤ k
-  pub room : a + k ≤ length old
-  pub size : length now ≡ length old
-  pub is : put_bytes a (last_digits i rest) now ≡ put_bytes a (last_digits k n) old
-
-pub spell_start : {n k a : ℕ} {old : List ℕ} → a + k ≤ length old → Spelling n k a old k n old
-spell_start h = record { upto = omega arith; room = h; size = refl; is = refl }
-
--- a turn, at i = j + 1
-spell_step : (n k a : ℕ) (old : List ℕ) (j rest : ℕ) (now : List ℕ) → Spelling n k a old (suc j) rest now →
-    Spelling n k a old j (rest / 10) (set now (a + j) (48 + rest % 10))
-unfolding last_digits
-spell_step n k a old j rest now s = record {
-  upto = omega arith;
-  room = s.room;
-  size = simp length-set s.size;
-  is = sym (put_last a j (last_digits j (rest / 10)) now (48 + rest % 10) (length_last j (rest / 10)) (omega arith)) ∙ s.is;
-}
-
-module _ {n k a : ℕ} {old : List ℕ} {i rest : ℕ} {now : List ℕ} (s : Spelling n k a old i rest now) where
-  pub spell_turn : 0 < i → Spelling n k a old (i - 1) (rest / 10) (set now (a + (i - 1)) (48 + rest % 10))
-  spell_turn h =
-      let e : i ≡ suc (i - 1) = omega arith in
-      spell_step n k a old (i - 1) rest now (subst (λ (j : ℕ). Spelling n k a old j rest now) e s)
-
-  pub spell_done : i ≤ 0 → now ≡ put_bytes a (last_digits k n) old
-  unfolding last_digits
-  spell_done h = let e : i ≡ 0 = omega arith in sym (put_nil a now) ∙ (rw e at s.is)
+-- its text is copied to a place
+pub number_wrote : (z : ℤ) (a : ℕ) (old : List ℕ) {text new : List ℕ} → mag z < 2 ^ 31 → text ≡ signed_decimal (held z) → length text ≤ 11 → new ≡ text →
+    Wrote 11 a (number_text z) old (put_mid a (a + length text - a) old new) (a + length text)
+unfolding put_bytes
+number_wrote z a old {text} {new} m e l n =
+    let is : text ≡ number_text z = e ∙ rw (back z m) (number_printed z m) in
+    let size : a + length text - a ≡ length text = omega arith in
+    rw (size, n, is, drop-drop) (record { short = rw is at l; end = refl; is = refl })
 
 -- ---- `write_line`
 
@@ -178,4 +112,4 @@ module _ {line : List ℤ} {a : ℕ} {old : List ℕ} {i next : ℕ} {now : List
         is = put_one next 10 now (omega arith) ∙ (rw none at l.is);
       }
 
-pub ruleset laws = (digits_wrote, places_start, places_turn, places_done, spell_start, spell_turn, spell_done, line_start, line_turn, line_done)
+pub ruleset laws = (line_start, line_turn, line_done)

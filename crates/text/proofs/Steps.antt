@@ -1,26 +1,27 @@
 -- `next`, `finish` and `negative`: a word by its kinds. Assumes nothing.
-use mathlib.Core.Path.{◌≡◌, refl, sym, ap, ◌∙◌}
+use mathlib.Core.Path.{◌≡◌, refl, sym, ap}
 use mathlib.Core.Bool.{Bool, true, false}
 use mathlib.Core.List.{List, [], ◌∷◌}
-use Prim.Native.Nat.{ℕ, zero, suc, ◌+◌, ◌-◌, ◌^◌, ◌<◌, ◌≤◌}
+use Prim.Native.Nat.{ℕ, zero, suc, ◌+◌, ◌^◌, ◌<◌, ◌≤◌}
 use native.Mathlib.Omega.{arith}
 use lib.Dec.{eqb, leb}
-use lib.IntN.{ℤ, pos, negsuc, neg_ℤ, ◌-ℤ◌}
+use lib.IntN.{ℤ, pos, neg_ℤ}
 use lib.ListN.{length, set}
 use lib.Signed.{mag}
 use mir.Syntax.{w32}
-use mir.Val.{SFits, to_z}
+use mir.Val.{to_z}
 use mir.ValLaws.{to_z_pos}
-use borrow.Author.Tests.{leb-true, eq-eqb, ne_eqb}
+use borrow.Author.Tests.{leb-true}
 use Rattle.rules.specs.Lists.{if}
 use Rattle.rules.specs.Buffers.{put}
 use Rattle.rules.proofs.Buffers.{put_nil, put_more}
 use Rattle.cells.proofs.Signed.{held, back}
-use Rattle.text.specs.declared.Read.TheVariants.{Numbers}
+use Rattle.std.specs.Prelude.{◌⊎◌, Option, Some, None, MatchOption}
+use Rattle.std.proofs.Common.{inl, inr}
 use Rattle.text.specs.declared.Word.{Word}
 use Rattle.text.specs.declared.Word.TheVariants.{Nothing, Minus, Natural, Negative, Broken}
 use Rattle.text.specs.Read.{numbers, other}
-use Rattle.text.specs.Words.{grown_of, within, natural_word, negative_word, next_of, ending, Small, begun}
+use Rattle.text.specs.Words.{grown_of, within, next_of, ending, Small, begun}
 use Rattle.text.specs.Placed.{Placed}
 
 -- ---- values
@@ -59,57 +60,20 @@ next_small Broken b = tt
 
 -- ---- one byte more
 
-module _ {word : Word} (b : ℕ) where
-  pub next_minus : word ≡ Nothing → b ≡ 45 → Minus ≡ next_of word b
-  unfolding next_of
-  next_minus e h = rw (e, eq-eqb b 45 h)
+-- a value that is kept, if it is within the limit, makes a word of its kind
+module _ (kind : ℕ → Word) (limit v : ℕ) where
+  within_limit : (t : Bool) {r : Word} → MatchOption (if t (Some v) None) (r ≡ Broken) (λ x. r ≡ kind x) → r ≡ if t (kind v) Broken
+  within_limit true m = m
+  within_limit false m = m
 
-  pub next_first : {value : ℕ} {after : Word} → word ≡ Nothing → (b ≡ 45 → ⊥) → value ≡ grown_of 0 b → after ≡ natural_word value → after ≡ next_of word b
-  unfolding next_of
-  next_first e h v a = a ∙ rw (e, ne_eqb b 45 h, v)
+  pub kept : {kept : Option ℕ} {r : Word} → kept ≡ if (leb v limit) (Some v) None → MatchOption kept (r ≡ Broken) (λ x. r ≡ kind x) → r ≡ within kind limit v
+  kept e m = within_limit (leb v limit) (rw e at m)
 
-  pub next_signed : {value : ℕ} {after : Word} → word ≡ Minus → value ≡ grown_of 0 b → after ≡ negative_word value → after ≡ next_of word b
-  unfolding next_of
-  next_signed e v a = a ∙ rw (e, v)
-
-  pub next_natural : {before value : ℕ} {after : Word} → word ≡ Natural before → value ≡ grown_of before b → after ≡ natural_word value → after ≡ next_of word b
-  unfolding next_of
-  next_natural e v a = a ∙ rw (e, v)
-
-  pub next_negative : {before value : ℕ} {after : Word} → word ≡ Negative before → value ≡ grown_of before b → after ≡ negative_word value → after ≡ next_of word b
-  unfolding next_of
-  next_negative e v a = a ∙ rw (e, v)
-
-  pub next_broken : word ≡ Broken → Broken ≡ next_of word b
-  unfolding next_of
-  next_broken e = rw e
-
--- ---- a negative number
-
--- -1 less n
-below : (n : ℕ) → negsuc 0 -ℤ pos n ≡ negsuc n
-below zero = refl
-below (suc n) = ap negsuc (omega arith)
-
-negated : (size : ℕ) → (size ≡ 0 → ⊥) → negsuc (size - 1) ≡ neg_ℤ (pos size)
-negated zero h = absurd (h refl)
-negated (suc n) h = ap negsuc (omega arith)
-
-module _ (size : ℕ) (some : size ≡ 0 → ⊥) (low : size ≤ 2 ^ 31) where
-  taken : negsuc 0 -ℤ to_z w32 (size - 1) ≡ negsuc (size - 1)
-  taken = rw (to_z_pos w32 (size - 1) (omega arith)) (below (size - 1))
-
-  pub taken_fits : SFits w32 (negsuc 0 -ℤ to_z w32 (size - 1))
-  taken_fits = rw taken (record { sfits = omega arith })
-
-  pub taken_is : held (negsuc 0 -ℤ to_z w32 (size - 1)) ≡ neg_ℤ (pos size)
-  taken_is = rw taken (back (negsuc (size - 1)) (omega arith) ∙ negated size some)
+-- ---- a word that ends
 
 mag_negated : (size : ℕ) → size ≤ 2 ^ 31 → mag (neg_ℤ (pos size)) < 2 ^ 31
 mag_negated zero h = omega arith
 mag_negated (suc n) h = omega arith
-
--- ---- a word that ends
 
 -- there is room for the number of a word
 module _ {word : Word} {n size : ℕ} (h : n + begun word ≤ size) where
@@ -119,7 +83,7 @@ module _ {word : Word} {n size : ℕ} (h : n + begun word ≤ size) where
   pub room_negative : {value : ℕ} → word ≡ Negative value → n < size
   room_negative e = let k = rw e at h in omega arith
 
-pub finish_nothing : {word : Word} (n : ℕ) (old : List ℤ) → word ≡ Nothing → Placed n (ending word) old old (Numbers n)
+pub finish_nothing : {word : Word} (n : ℕ) (old : List ℤ) → word ≡ Nothing → Placed n (ending word) old old (Some n)
 unfolding ending
 finish_nothing n old e = record { list = []; reads = ap ending e; count = omega arith; is = sym (put_nil n old) }
 
@@ -130,25 +94,22 @@ one_put n old z h =
     let e : n + 0 ≡ n = omega arith in
     rw (e, put_nil) at s
 
-number_put : (word : Word) (n : ℕ) (old : List ℤ) (z : ℤ) → ending word ≡ numbers (z ∷ []) → n < length old → Placed n (ending word) old (set old n z) (Numbers (n + 1))
+number_put : (word : Word) (n : ℕ) (old : List ℤ) (z : ℤ) → ending word ≡ numbers (z ∷ []) → n < length old → Placed n (ending word) old (set old n z) (Some (n + 1))
 number_put word n old z e h = record { list = z ∷ []; reads = e; count = refl; is = one_put n old z h }
 
 module _ {word : Word} (n : ℕ) (old : List ℤ) (h : n + begun word ≤ length old) (s : Small word) where
-  pub finish_natural : {value : ℕ} → word ≡ Natural value → Placed n (ending word) old (set old n (to_z w32 value)) (Numbers (n + 1))
+  pub finish_natural : {value : ℕ} → word ≡ Natural value → Placed n (ending word) old (set old n (to_z w32 value)) (Some (n + 1))
   unfolding ending
   finish_natural {value} e = rw (to_z_pos w32 value (small_natural e s)) (number_put word n old (pos value) (ap ending e) (room_natural h e))
 
-  pub finish_negative : {value : ℕ} {z : ℤ} → word ≡ Negative value → z ≡ neg_ℤ (pos value) → Placed n (ending word) old (set old n (held z)) (Numbers (n + 1))
+  pub finish_negative : {value : ℕ} {z : ℤ} → word ≡ Negative value → z ≡ neg_ℤ (pos value) → Placed n (ending word) old (set old n (held z)) (Some (n + 1))
   unfolding ending
   finish_negative {value} e q =
       rw (q, back (neg_ℤ (pos value)) (mag_negated value (small_negative e s))) (number_put word n old (neg_ℤ (pos value)) (ap ending e) (room_negative h e))
 
-pub finish_minus : {word : Word} → word ≡ Minus → ending word ≡ other
+pub finish_none : {word : Word} → (word ≡ Minus) ⊎ (word ≡ Broken) → ending word ≡ other
 unfolding ending
-finish_minus e = ap ending e
+finish_none (inl e) = ap ending e
+finish_none (inr e) = ap ending e
 
-pub finish_broken : {word : Word} → word ≡ Broken → ending word ≡ other
-unfolding ending
-finish_broken e = ap ending e
-
-pub ruleset laws = (small_natural, natural_low, small_negative, next_minus, next_first, next_signed, next_natural, next_negative, next_broken, taken_fits, taken_is, room_natural, room_negative, finish_nothing, finish_natural, finish_negative, finish_minus, finish_broken)
+pub ruleset laws = (small_natural, natural_low, small_negative, room_natural, room_negative, finish_nothing, finish_natural, finish_negative, finish_none)

@@ -1,9 +1,8 @@
 -- The text form of numbers: read from bytes, and written as lines.
 --     Read, Written      what the numbers of a text are, and the text of numbers
---     Words, Spelled     the same as the loops go
+--     Words              the same as the loop goes
 --     Placed             where numbers and bytes are put
 pub mod Read
 pub mod Written
 pub mod Words
-pub mod Spelled
 pub mod Placed

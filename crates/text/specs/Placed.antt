@@ -1,8 +1,6 @@
 -- Where the numbers of a text, and the bytes of a number, are put.
-use Rattle.std.specs.Prelude.{◌≡◌, List, ◌++◌, ℕ, ◌+◌, ◌≤◌, ℤ, length, take, drop}
+use Rattle.std.specs.Prelude.{◌≡◌, List, ◌++◌, ℕ, ◌+◌, ◌≤◌, ℤ, length, take, drop, Option, Some, None}
 use Rattle.rules.specs.Buffers.{over, put}
-use Rattle.text.specs.declared.Read.{Read}
-use Rattle.text.specs.declared.Read.TheVariants.{Numbers, Other}
 use Rattle.text.specs.Read.{Reading, numbers, other, read_text}
 
 -- the numbers of a reading stand from a on, and end before n
@@ -21,13 +19,13 @@ pub record Front (text : List ℕ) (old now : List ℤ) (n : ℕ) : Type 0 where
   pub is : now ≡ over list old
 
 -- an answer goes by whether there are numbers
-abbrev pub Placed : ℕ → Reading → List ℤ → List ℤ → Read → Type 0
-Placed a reading old now (Numbers n) = Stand a reading old now n
-Placed a reading old now Other = reading ≡ other
+abbrev pub Placed : ℕ → Reading → List ℤ → List ℤ → Option ℕ → Type 0
+Placed a reading old now (Some n) = Stand a reading old now n
+Placed a reading old now None = reading ≡ other
 
-abbrev pub ReadInto : List ℕ → List ℤ → List ℤ → Read → Type 0
-ReadInto text old now (Numbers n) = Front text old now n
-ReadInto text old now Other = read_text text ≡ other
+abbrev pub ReadInto : List ℕ → List ℤ → List ℤ → Option ℕ → Type 0
+ReadInto text old now (Some n) = Front text old now n
+ReadInto text old now None = read_text text ≡ other
 
 -- the old bytes with new ones from a on; all others stay
 unfoldable pub put_bytes : ℕ → List ℕ → List ℕ → List ℕ

@@ -1,5 +1,5 @@
 -- A text read as the loop goes, byte by byte: a word as far as it is read, and what it says when it ends.
-use Rattle.std.specs.Prelude.{List, [], ◌∷◌, ℕ, ◌+◌, ◌*◌, ◌-◌, ◌^◌, ◌<◌, ◌≤◌, eqb, leb, pos, neg_ℤ}
+use Rattle.std.specs.Prelude.{List, [], ◌∷◌, ℕ, ◌+◌, ◌*◌, ◌-◌, ◌^◌, ◌<◌, ◌≤◌, eqb, leb, pos, neg_ℤ, Option, Some, None}
 use Prim.{Unit}
 use Rattle.rules.specs.Lists.{if}
 use Rattle.text.specs.declared.Word.{Word}
@@ -9,6 +9,10 @@ use Rattle.text.specs.Read.{Reading, numbers, other, is_gap, is_digit, both}
 -- a value with one digit more; for a byte that is no digit, a value above every number's
 abbrev pub grown_of : ℕ → ℕ → ℕ
 grown_of value b = if (is_digit b) (value * 10 + (b - 48)) (2 ^ 31 + 1)
+
+-- the same if it is within the limit
+abbrev pub grown_within : ℕ → ℕ → ℕ → Option ℕ
+grown_within value b limit = if (leb (grown_of value b) limit) (Some (grown_of value b)) None
 
 -- a word with that value, if it is within the limit
 abbrev pub within : (ℕ → Word) → ℕ → ℕ → Word

@@ -25,3 +25,8 @@ rest_text (z ∷ line) = 32 ∷ number_text z ++ rest_text line
 unfoldable pub line_text : List ℤ → List ℕ
 line_text [] = 10 ∷ []
 line_text (z ∷ line) = number_text z ++ rest_text line
+
+-- number i of a line: after a space, unless it is the first
+unfoldable pub item_text : ℕ → ℤ → List ℕ
+item_text zero z = number_text z
+item_text (suc i) z = 32 ∷ number_text z

@@ -3,17 +3,9 @@
 
 ghost use Rattle.std.specs.Prelude.{◌≡◌, ◌+◌, ◌*◌, ◌^◌, ◌≤◌, pos, neg_ℤ, length};
 ghost use Rattle.text.specs.Read.{is_gap};
-ghost use Rattle.text.specs.Written.{digits, number_text, line_text};
-ghost use Rattle.text.specs.Words.{grown_of, natural_word, negative_word, next_of, ending, Small, begun};
-ghost use Rattle.text.specs.Spelled.{places_in, last_digits, item_text};
-ghost use Rattle.text.specs.Placed.{Placed, ReadInto, put_bytes, Wrote};
-
-// What a text is: so many numbers, or no text of numbers.
-#[derive(Clone, Copy)]
-pub enum Read {
-    Numbers(usize),
-    Other,
-}
+ghost use Rattle.text.specs.Written.{number_text, line_text, item_text};
+ghost use Rattle.text.specs.Words.{grown_within, next_of, ending, Small, begun};
+ghost use Rattle.text.specs.Placed.{Placed, ReadInto, Wrote};
 
 // A word as far as it is read: nothing yet, a minus alone, the value of digits, that of digits after a minus, or no number.
 #[derive(Clone, Copy)]
@@ -25,26 +17,24 @@ enum Word {
     Broken,
 }
 
-// The numbers of a text go to the front of out; those behind them stay.
-pub fn read_numbers(text: &[u8], out: &mut [i32]) -> Read
+// The largest number of 32 bits, and how far below 0 the least one is.
+const MOST: usize = 2147483647;
+
+const LEAST: usize = 2147483648;
+
+// The numbers of a text go to the front of out; those behind them stay. Answers how many, or nothing for other text.
+pub fn read_numbers(text: &[u8], out: &mut [i32]) -> Option<usize>
     requires { length text.now ≤ 2 * length out.old }
     ensures { ReadInto text.now out.old out.new result }
 {
     let mut word = Word::Nothing;
     let mut n = 0;
-    let mut i = 0;
-    while i < text.len() {
-        let byte = text[i];
-        if is_gap(byte) {
-            let Read::Numbers(count) = finish(word, out, n) else {
-                return Read::Other;
-            };
+    for byte in text {
+        if is_gap(*byte) {
+            n = finish(word, out, n)?;
             word = Word::Nothing;
-            n = count;
-            i += 1;
         } else {
-            word = next(word, byte);
-            i += 1;
+            word = next(word, *byte);
         }
     }
     finish(word, out, n)
@@ -54,26 +44,25 @@ pub fn read_numbers(text: &[u8], out: &mut [i32]) -> Read
 fn is_gap(byte: u8) -> bool
     ensures { result ≡ is_gap byte }
 {
-    byte == 32 || byte == 10
+    byte == b' ' || byte == b'\n'
 }
 
-// The number of a word that ends goes to place n; answers how many numbers there are now.
-fn finish(word: Word, out: &mut [i32], n: usize) -> Read
+// The number of a word that ends goes to place n; answers how many numbers there are now, or nothing for no number.
+fn finish(word: Word, out: &mut [i32], n: usize) -> Option<usize>
     requires { (n + begun word ≤ length out.old) × Small word }
     ensures { Placed n (ending word) out.old out.new result }
 {
     match word {
-        Word::Nothing => Read::Numbers(n),
+        Word::Nothing => Some(n),
         Word::Natural(value) => {
             out[n] = value as i32;
-            Read::Numbers(n + 1)
+            Some(n + 1)
         }
         Word::Negative(value) => {
             out[n] = negative(value);
-            Read::Numbers(n + 1)
+            Some(n + 1)
         }
-        Word::Minus => Read::Other,
-        Word::Broken => Read::Other,
+        Word::Minus | Word::Broken => None,
     }
 }
 
@@ -82,11 +71,7 @@ fn negative(size: usize) -> i32
     requires { size ≤ 2 ^ 31 }
     ensures { result ≡ neg_ℤ (pos size) }
 {
-    if size == 0 {
-        return 0;
-    }
-    let below = (size - 1) as i32;
-    -1 - below
+    -(size as i64) as i32
 }
 
 // A word with one byte more.
@@ -95,51 +80,25 @@ fn next(word: Word, byte: u8) -> Word
     ensures { result ≡ next_of word byte }
 {
     match word {
-        Word::Nothing => {
-            if byte == 45 {
-                return Word::Minus;
-            }
-            natural_word(grown(0, byte))
-        }
-        Word::Minus => negative_word(grown(0, byte)),
-        Word::Natural(value) => natural_word(grown(value, byte)),
-        Word::Negative(value) => negative_word(grown(value, byte)),
+        Word::Nothing if byte == b'-' => Word::Minus,
+        Word::Nothing => grown(0, byte, MOST).map_or(Word::Broken, Word::Natural),
+        Word::Minus => grown(0, byte, LEAST).map_or(Word::Broken, Word::Negative),
+        Word::Natural(value) => grown(value, byte, MOST).map_or(Word::Broken, Word::Natural),
+        Word::Negative(value) => grown(value, byte, LEAST).map_or(Word::Broken, Word::Negative),
         Word::Broken => Word::Broken,
     }
 }
 
-// A value with one digit more; for a byte that is no digit, a value above every number's.
-fn grown(value: usize, byte: u8) -> usize
-    requires { value ≤ 2 ^ 31 }
-    ensures { result ≡ grown_of value byte }
+// A value with one digit more, if the byte is a digit and the value is within a limit.
+fn grown(value: usize, byte: u8, limit: usize) -> Option<usize>
+    requires { (value ≤ 2 ^ 31) × (limit ≤ 2 ^ 31) }
+    ensures { result ≡ grown_within value byte limit }
 {
-    if byte < 48 {
-        return 2147483649;
+    if !byte.is_ascii_digit() {
+        return None;
     }
-    if 57 < byte {
-        return 2147483649;
-    }
-    value * 10 + (byte as usize - 48)
-}
-
-// The word of digits with that value.
-fn natural_word(value: usize) -> Word
-    ensures { result ≡ natural_word value }
-{
-    if 2147483647 < value {
-        return Word::Broken;
-    }
-    Word::Natural(value)
-}
-
-// The word of a minus and digits with that value.
-fn negative_word(value: usize) -> Word
-    ensures { result ≡ negative_word value }
-{
-    if 2147483648 < value {
-        return Word::Broken;
-    }
-    Word::Negative(value)
+    let more = value * 10 + usize::from(byte - b'0');
+    if more <= limit { Some(more) } else { None }
 }
 
 // A line of numbers, parted by spaces and ended by a newline, goes to a place of out; answers the place behind it.
@@ -148,12 +107,10 @@ pub fn write_line(line: &[i32], out: &mut [u8], at: usize) -> usize
     ensures { Wrote (12 * length line.now + 1) at (line_text line.now) out.old out.new result }
 {
     let mut next = at;
-    let mut i = 0;
-    while i < line.len() {
-        next = write_item(i, line[i], out, next);
-        i += 1;
+    for (i, z) in line.iter().enumerate() {
+        next = write_item(i, *z, out, next);
     }
-    out[next] = 10;
+    out[next] = b'\n';
     next + 1
 }
 
@@ -165,7 +122,7 @@ fn write_item(i: usize, z: i32, out: &mut [u8], at: usize) -> usize
     if i == 0 {
         return write_number(z, out, at);
     }
-    out[at] = 32;
+    out[at] = b' ';
     write_number(z, out, at + 1)
 }
 
@@ -174,48 +131,9 @@ pub fn write_number(z: i32, out: &mut [u8], at: usize) -> usize
     requires { at + 11 ≤ length out.old }
     ensures { Wrote 11 at (number_text z) out.old out.new result }
 {
-    if z < 0 {
-        out[at] = 45;
-        let below = -1 - z;
-        return write_digits(below as usize + 1, out, at + 1);
-    }
-    write_digits(z as usize, out, at)
-}
-
-// The digits of a number go to a place of out; answers the place behind them.
-fn write_digits(n: usize, out: &mut [u8], at: usize) -> usize
-    requires { (n ≤ 2 ^ 31) × (at + 10 ≤ length out.old) }
-    ensures { Wrote 10 at (digits n) out.old out.new result }
-{
-    let k = places(n);
-    spell(n, k, out, at);
-    at + k
-}
-
-// How many digits a number has.
-fn places(n: usize) -> usize
-    requires { n ≤ 2 ^ 31 }
-    ensures { (result ≡ places_in 10 n) × (result ≤ 10) }
-{
-    let mut k = 1;
-    let mut rest = n;
-    while 10 <= rest {
-        rest /= 10;
-        k += 1;
-    }
-    k
-}
-
-// The last k digits of a number go to a place of out, the last one first.
-fn spell(n: usize, k: usize, out: &mut [u8], at: usize)
-    requires { at + k ≤ length out.old }
-    ensures { out.new ≡ put_bytes at (last_digits k n) out.old }
-{
-    let mut i = k;
-    let mut rest = n;
-    while 0 < i {
-        i -= 1;
-        out[at + i] = 48 + (rest % 10) as u8;
-        rest /= 10;
-    }
+    let mut buffer = itoa::Buffer::new();
+    let digits = buffer.format(z).as_bytes();
+    let end = at + digits.len();
+    out[at..end].copy_from_slice(digits);
+    end
 }

@@ -1,4 +1,5 @@
 -- What a text, a list of two records and a union are answered with. Assumes nothing.
+use Rattle.std.specs.Prelude.{Err, Ok, Result}
 use mathlib.Core.Path.{◌≡◌, refl, sym, ap, ◌∙◌}
 use mathlib.Core.Bool.{Bool, true, false, not, ◌&&◌, ◌||◌}
 use mathlib.Core.List.{List, [], ◌∷◌}
@@ -8,8 +9,6 @@ use lib.IntN.{ℤ}
 use lib.ListN.{length, take, drop, length-drop}
 use lib.Seq.{take_at}
 use Rattle.rules.specs.declared.Refusal.{Refusal}
-use Rattle.rules.specs.declared.Written.{Written}
-use Rattle.rules.specs.declared.Written.TheVariants.{Numbers, Refused}
 use Rattle.rules.specs.Limits.{result_size, work_size}
 use Rattle.rules.specs.Buffers.{over}
 use Rattle.rules.specs.Refusals.{Verdict, given, refused, in_form, number_of, ◌then◌, ◌when◌, lowest}
@@ -17,7 +16,7 @@ use Rattle.rules.specs.Layout.{Layout, encode}
 use Rattle.rules.specs.Soundness.{Sound}
 use Rattle.rules.specs.Record.{layout_in, sound, behind_record}
 use Rattle.rules.specs.Arguments.{over_record, short_result, short_work}
-use Rattle.rules.specs.Endings.{result_after, written_says, Ends}
+use Rattle.rules.specs.Endings.{result_after, says, Ends}
 use Rattle.rules.specs.Union.{union, union_call}
 use Rattle.rules.proofs.Encoded.{encode_short, layout_alone, sound_alone}
 use Rattle.rules.proofs.Unions.{never, union_sound}
@@ -74,19 +73,19 @@ pub record Holds (v : Verdict Layout) (numbers : List ℤ) (n : ℕ) : Type 0 wh
   pub is_sound : Sound layout
   pub short : n ≤ result_size
 
-module _ {v : Verdict Layout} {result work result' work' : List ℤ} {r : Written} (e : Ends (in_form encode v) result work r result' work') where
+module _ {v : Verdict Layout} {result work result' work' : List ℤ} {r : Result ℕ Refusal} (e : Ends (in_form encode v) result work r result' work') where
   -- a refusal says why
-  refused_why : {x : Refusal} → r ≡ Refused x → v ≡ refused (number_of x)
-  refused_why {x} f = go v (sym (ap written_says f) ∙ e.answer)
+  refused_why : {x : Refusal} → r ≡ Err x → v ≡ refused (number_of x)
+  refused_why {x} f = go v (sym (ap says f) ∙ e.answer)
     where
       go : (v : Verdict Layout) → refused (number_of x) ≡ in_form length (in_form encode v) → v ≡ refused (number_of x)
       go (given l) p = cc
       go (refused n) p = cc
 
   -- numbers that were written are the record of a layout
-  record_held : ((l : Layout) → v ≡ given l → Sound l) → {n : ℕ} → r ≡ Numbers n → Holds v result' n
+  record_held : ((l : Layout) → v ≡ given l → Sound l) → {n : ℕ} → r ≡ Ok n → Holds v result' n
   unfolding result_after over
-  record_held All-sound {n} f = go v refl (sym (ap written_says f) ∙ e.answer) e.result_is
+  record_held All-sound {n} f = go v refl (sym (ap says f) ∙ e.answer) e.result_is
     where
       go : (u : Verdict Layout) → v ≡ u → given n ≡ in_form length (in_form encode u) → result' ≡ result_after (in_form encode u) result → Holds v result' n
       go (given l) p q k =
@@ -95,13 +94,13 @@ module _ {v : Verdict Layout} {result work result' work' : List ℤ} {r : Writte
           record { layout = l; is = p; front = rw k (take_at (encode l) (drop (length (encode l)) result) n size); is_sound = All-sound l p; short = omega arith }
       go (refused m) p q k = absurd (never (sym q))
 
-module _ (s t : List ℤ) (a b : ℕ) {result work result' work' : List ℤ} {r : Written} (e : Ends (in_form encode (union_call s t a b)) result work r result' work') where
+module _ (s t : List ℤ) (a b : ℕ) {result work result' work' : List ℤ} {r : Result ℕ Refusal} (e : Ends (in_form encode (union_call s t a b)) result work r result' work') where
   -- the numbers that a union wrote
-  pub union_held : {n : ℕ} → r ≡ Numbers n → Holds (union_call s t a b) result' n
+  pub union_held : {n : ℕ} → r ≡ Ok n → Holds (union_call s t a b) result' n
   union_held f = record_held {v = union_call s t a b} e (λ l. call_sound s t a b) f
 
   -- why a union was refused
-  pub union_why : {x : Refusal} → r ≡ Refused x → refused_text (number_of x) ≡ verdict_text (union_call s t a b)
+  pub union_why : {x : Refusal} → r ≡ Err x → refused_text (number_of x) ≡ verdict_text (union_call s t a b)
   union_why f = sym (ap verdict_text (refused_why {v = union_call s t a b} e f))
 
 module _ {v : Verdict Layout} {numbers : List ℤ} {n : ℕ} (h : Holds v numbers n) where

@@ -6,17 +6,11 @@ use Rattle.axes.proofs.number_of.Goals as goal
 pub low-requires : goal.low-requires
 low-requires c = search (rules, pair_numbered)
 
-pub overflow_add-at : goal.overflow_add-at
-overflow_add-at c = search (rules, pair_numbered)
-
 pub low-requires-then-w-eq2 : goal.low-requires-then-w-eq2
 low-requires-then-w-eq2 c = search (rules, pair_numbered)
 
 pub overflow_mul-result : goal.overflow_mul-result
 overflow_mul-result c = search (rules, pair_numbered)
-
-pub overflow_add-a : goal.overflow_add-a
-overflow_add-a c = search (rules, pair_numbered)
 
 pub low-requires-then-w-eq2-2 : goal.low-requires-then-w-eq2-2
 low-requires-then-w-eq2-2 c = search (rules, pair_numbered)
@@ -27,32 +21,17 @@ overflow_add-result c = search (rules, pair_numbered)
 pub returns-then-w-eq2 : goal.returns-then-w-eq2
 returns-then-w-eq2 c = search (rules, pair_numbered)
 
-pub loop-k-init : goal.loop-k-init
-loop-k-init c = search (rules, numbered)
-
-pub overflow_add-at-in-loop-k : goal.overflow_add-at-in-loop-k
-overflow_add-at-in-loop-k c = search (rules, numbered)
-
 pub low-requires-in-loop-k : goal.low-requires-in-loop-k
 low-requires-in-loop-k c = search (rules, numbered)
 
 pub overflow_mul-number : goal.overflow_mul-number
 overflow_mul-number c = search (rules, numbered)
 
-pub overflow_add-a-in-loop-k : goal.overflow_add-a-in-loop-k
-overflow_add-a-in-loop-k c = search (rules, numbered)
-
 pub low-requires-in-loop-k-2 : goal.low-requires-in-loop-k-2
 low-requires-in-loop-k-2 c = search (rules, numbered)
 
 pub overflow_add-number : goal.overflow_add-number
 overflow_add-number c = search (rules, numbered)
-
-pub overflow_step-k : goal.overflow_step-k
-overflow_step-k c = search (rules, numbered)
-
-pub loop-k-smaller : goal.loop-k-smaller
-loop-k-smaller c = search (rules, numbered)
 
 pub loop-k-preserved : goal.loop-k-preserved
 loop-k-preserved c = search (rules, numbered)

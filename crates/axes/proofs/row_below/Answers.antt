@@ -6,12 +6,6 @@ use Rattle.axes.proofs.row_below.Goals as goal
 pub below-requires : goal.below-requires
 below-requires c = search (rules, pairs)
 
-pub overflow_add-a : goal.overflow_add-a
-overflow_add-a c = search (rules, pairs)
-
-pub overflow_add-at : goal.overflow_add-at
-overflow_add-at c = search (rules, pairs)
-
 pub below-requires-then-below : goal.below-requires-then-below
 below-requires-then-below c = search (rules, pairs)
 
@@ -21,26 +15,11 @@ returns-then-below c = search (rules, pairs)
 pub returns-then-w-eq2 : goal.returns-then-w-eq2
 returns-then-w-eq2 c = search (rules, pairs)
 
-pub loop-k-init : goal.loop-k-init
-loop-k-init c = search (rules, laws)
-
-pub overflow_add-a-in-loop-k : goal.overflow_add-a-in-loop-k
-overflow_add-a-in-loop-k c = search (rules, laws)
-
-pub overflow_add-at-in-loop-k : goal.overflow_add-at-in-loop-k
-overflow_add-at-in-loop-k c = search (rules, laws)
-
 pub below-requires-in-loop-k : goal.below-requires-in-loop-k
 below-requires-in-loop-k c = search (rules, laws)
 
 pub returns-then-not-below : goal.returns-then-not-below
 returns-then-not-below c = search (rules, laws)
-
-pub overflow_step-k : goal.overflow_step-k
-overflow_step-k c = search (rules, laws)
-
-pub loop-k-smaller : goal.loop-k-smaller
-loop-k-smaller c = search (rules, laws)
 
 pub loop-k-preserved : goal.loop-k-preserved
 loop-k-preserved c = search (rules, laws)

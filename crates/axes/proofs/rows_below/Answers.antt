@@ -1,30 +1,17 @@
 -- `rows_below`: at each turn the components of the first i rows are below the extents.
-use native.Mathlib.Omega.{arith}
 use borrow.Author.Rules.{rules}
-use Rattle.tables.proofs.Rows.{row_ends, has_row}
+use Rattle.tables.proofs.Rows.{has_row}
 use Rattle.tables.proofs.Passing.{rows_passing}
 use Rattle.axes.proofs.rows_below.Goals as goal
 
 pub loop-i-init : goal.loop-i-init
 loop-i-init c = search (rules, rows_passing)
 
-pub overflow_mul-i : goal.overflow_mul-i
-overflow_mul-i c = omega (arith, row_ends c.args.w c.loop-i-test.true)
-
-pub overflow_add-a : goal.overflow_add-a
-overflow_add-a c = omega (arith, row_ends c.args.w c.loop-i-test.true)
-
 pub row_below-requires : goal.row_below-requires
 row_below-requires c = search (rules, has_row)
 
 pub returns-then-not-row_below : goal.returns-then-not-row_below
 returns-then-not-row_below c = search (rules, rows_passing)
-
-pub overflow_step-i : goal.overflow_step-i
-overflow_step-i c = search (rules, rows_passing)
-
-pub loop-i-smaller : goal.loop-i-smaller
-loop-i-smaller c = search (rules, rows_passing)
 
 pub loop-i-preserved : goal.loop-i-preserved
 loop-i-preserved c = search (rules, rows_passing)

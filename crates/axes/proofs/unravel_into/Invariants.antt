@@ -4,6 +4,3 @@ use Rattle.axes.proofs.unravel_into.Given as goal
 
 abbrev pub invariant-loop-k : goal.invariant-loop-k
 invariant-loop-k l = Unraveling l.number l.at l.rank l.s l.to l.initial.out l.left l.k l.out
-
-abbrev pub decreases-loop-k : goal.decreases-loop-k
-decreases-loop-k l = l.k

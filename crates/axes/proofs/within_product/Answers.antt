@@ -6,32 +6,11 @@ use Rattle.axes.proofs.within_product.Goals as goal
 pub loop-k-init : goal.loop-k-init
 loop-k-init c = search (rules, limits)
 
-pub overflow_add-at : goal.overflow_add-at
-overflow_add-at c = search (rules, limits)
-
-pub get-extent-requires : goal.get-extent-requires
-get-extent-requires c = search (rules, limits)
-
-pub overflow_step-k : goal.overflow_step-k
-overflow_step-k c = search (rules, limits)
-
-pub loop-k-smaller-then-extent-eq0 : goal.loop-k-smaller-then-extent-eq0
-loop-k-smaller-then-extent-eq0 c = search (rules, limits)
-
 pub loop-k-preserved-then-extent-eq0 : goal.loop-k-preserved-then-extent-eq0
 loop-k-preserved-then-extent-eq0 c = search (rules, limits)
 
-pub overflow_mul-product : goal.overflow_mul-product
-overflow_mul-product c = search (rules, limits)
-
 pub returns-then-product-gt-PRODUCT_LIMIT : goal.returns-then-product-gt-PRODUCT_LIMIT
 returns-then-product-gt-PRODUCT_LIMIT c = search (rules, limits)
-
-pub overflow_step-k-in-loop-k : goal.overflow_step-k-in-loop-k
-overflow_step-k-in-loop-k c = search (rules, limits)
-
-pub loop-k-smaller : goal.loop-k-smaller
-loop-k-smaller c = search (rules, limits)
 
 pub loop-k-preserved : goal.loop-k-preserved
 loop-k-preserved c = search (rules, limits)

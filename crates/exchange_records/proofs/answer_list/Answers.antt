@@ -14,7 +14,7 @@ returns-in_default c = front_is (list_negative _ c.if-list-eq0.false c.sign_at.e
 
 pub returns-then-n-gt-LIST_LIMIT : goal.returns-then-n-gt-LIST_LIMIT
 unfolding number_of
-returns-then-n-gt-LIST_LIMIT c = front_is (list_over _ c.if-list-eq0.false c.sign_at.ensures.is c.in-Natural.is c.if-n-gt-LIST_LIMIT.true) c.write_refusal-then-n-gt-LIST_LIMIT.ensures
+returns-then-n-gt-LIST_LIMIT c = front_is (list_over _ c.if-list-eq0.false c.sign_at.ensures.is c.in-Some.is c.if-n-gt-LIST_LIMIT.true) c.write_refusal-then-n-gt-LIST_LIMIT.ensures
 
 pub returns : goal.returns
-returns c = front_is (list_records _ c.if-list-eq0.false c.sign_at.ensures.is c.in-Natural.is c.if-n-gt-LIST_LIMIT.false) c.answer_records.ensures
+returns c = front_is (list_records _ c.if-list-eq0.false c.sign_at.ensures.is c.in-Some.is c.if-n-gt-LIST_LIMIT.false) c.answer_records.ensures

@@ -1,18 +1,17 @@
 -- `is_held`: by the kind.
-use Rattle.filtering.proofs.Held.{ask_below, held_dense, ask_diagonal_lem, held_diagonal, held_sparse}
+use mathlib.Core.Path.{refl}
+use Rattle.rules.proofs.KindRead.{dense_number, diagonal_number, sparse_not_dense, sparse_not_diagonal}
+use Rattle.filtering.proofs.Held.{held_dense, ask_diagonal_lem, held_diagonal, held_sparse}
 use Rattle.filtering.proofs.is_held.Goals as goal
 
-pub row_below-requires : goal.row_below-requires
-row_below-requires c = let told = ask_below c.requires c.get-rank.ensures.0 in record { has_row = told.0; w_in_bounds = told.1 }
-
-pub returns-then-kind-eq0 : goal.returns-then-kind-eq0
-returns-then-kind-eq0 c = held_dense c.requires c.get-kind.ensures.0 c.if-kind-eq0.true c.get-rank.ensures.0 c.row_below.ensures
+pub returns-in-Dense : goal.returns-in-Dense
+returns-in-Dense c = held_dense c.requires refl (dense_number c.kind_at.ensures c.in-Dense.is) c.get.ensures.0 c.row_below.ensures
 
 pub on_diagonal-requires : goal.on_diagonal-requires
-on_diagonal-requires c = ask_diagonal_lem c.requires c.get-kind.ensures.0 c.if-kind-eq1.true
+on_diagonal-requires c = ask_diagonal_lem c.requires refl (diagonal_number c.kind_at.ensures c.in-Diagonal.is)
 
-pub returns-then-kind-eq1 : goal.returns-then-kind-eq1
-returns-then-kind-eq1 c = held_diagonal c.requires c.get-kind.ensures.0 c.if-kind-eq1.true c.on_diagonal.ensures
+pub returns-in-Diagonal : goal.returns-in-Diagonal
+returns-in-Diagonal c = held_diagonal c.requires refl (diagonal_number c.kind_at.ensures c.in-Diagonal.is) c.on_diagonal.ensures
 
-pub returns : goal.returns
-returns c = held_sparse c.requires c.get-kind.ensures.0 c.if-kind-eq0.false c.if-kind-eq1.false c.is_row.ensures
+pub returns-in-Sparse : goal.returns-in-Sparse
+returns-in-Sparse c = held_sparse c.requires refl (sparse_not_dense c.kind_at.ensures c.in-Sparse.is) (sparse_not_diagonal c.kind_at.ensures c.in-Sparse.is) c.is_row.ensures

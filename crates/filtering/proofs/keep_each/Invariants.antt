@@ -1,10 +1,6 @@
 -- `keep_each`: at each turn those of the first i entries that are held are in the table.
-use Prim.Native.Nat.{◌-◌}
 use Rattle.filtering.proofs.Keeping.{Walk}
 use Rattle.filtering.proofs.keep_each.Given as goal
 
 abbrev pub invariant-loop-i : goal.invariant-loop-i
 invariant-loop-i l = Walk l.at l.from l.to l.w l.n l.i l.initial.s l.s
-
-abbrev pub decreases-loop-i : goal.decreases-loop-i
-decreases-loop-i l = l.n - l.i

@@ -5,5 +5,5 @@ use Rattle.intersecting.proofs.other_of.Goals as goal
 pub returns-then-is_dense : goal.returns-then-is_dense
 returns-then-is_dense c = other_right c.is_dense.ensures c.if-is_dense.true
 
-pub returns : goal.returns
-returns c = other_left c.is_dense.ensures c.if-is_dense.false
+pub returns-else-is_dense : goal.returns-else-is_dense
+returns-else-is_dense c = other_left c.is_dense.ensures c.if-is_dense.false

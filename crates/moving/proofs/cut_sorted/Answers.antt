@@ -1,20 +1,13 @@
 -- `cut_sorted`: at each turn the first i rows, cut, are in the table, in order and once each.
-use native.Mathlib.Omega.{arith}
 use Rattle.rules.proofs.Sorting.{sorted_length}
 use Rattle.rules.proofs.Changed.{take_low}
 use Rattle.tables.proofs.Rows.{front_row}
 use Rattle.records.proofs.Naturals.{has_front}
-use Rattle.moving.proofs.Filling.{start_filling, row_there, row_ended, can_take, turn_sorted, filled, sorted_none}
+use Rattle.moving.proofs.Filling.{start_filling, row_there, can_take, turn_sorted, filled, sorted_none}
 use Rattle.moving.proofs.cut_sorted.Goals as goal
 
 pub loop-i-init : goal.loop-i-init
 loop-i-init c = start_filling c.requires.pick_asked c.store.ensures (take_low c.args.w) sorted_none
-
-pub overflow_mul-i : goal.overflow_mul-i
-overflow_mul-i c = omega (arith, row_ended c.loop-i.invariant c.loop-i-test.true)
-
-pub overflow_add-rows : goal.overflow_add-rows
-overflow_add-rows c = omega (arith, row_ended c.loop-i.invariant c.loop-i-test.true)
 
 pub put_row-requires : goal.put_row-requires
 put_row-requires c = record {

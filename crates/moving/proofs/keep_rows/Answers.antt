@@ -4,12 +4,6 @@ use Rattle.parts.proofs.Loading.{places}
 use Rattle.moving.proofs.Kept.{rows_kept}
 use Rattle.moving.proofs.keep_rows.Goals as goal
 
-pub slice_bounds-copy_into-start : goal.slice_bounds-copy_into-start
-slice_bounds-copy_into-start c = let b = places c.requires.sound_record in omega arith
-
-pub slice_bounds-copy_into-end : goal.slice_bounds-copy_into-end
-slice_bounds-copy_into-end c = let b = places c.requires.sound_record in omega arith
-
 pub copy_into-requires : goal.copy_into-requires
 copy_into-requires c = let b = places c.requires.sound_record in omega arith
 

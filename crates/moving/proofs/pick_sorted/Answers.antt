@@ -1,22 +1,12 @@
 -- `pick_sorted`: at each turn the first i rows, picked, are in the table, in order and once each.
-use native.Mathlib.Omega.{arith}
 use borrow.Author.Rules.{rules}
 use Rattle.rules.proofs.Sorting.{sorted_length}
 use Rattle.moving.proofs.Picking.{picked_low}
-use Rattle.moving.proofs.Filling.{start_filling, row_ended, ask_row_lem, row_made, can_take, turn_sorted, filled, sorted_none}
+use Rattle.moving.proofs.Filling.{start_filling, row_made, can_take, turn_sorted, filled, sorted_none}
 use Rattle.moving.proofs.pick_sorted.Goals as goal
 
 pub loop-i-init : goal.loop-i-init
 loop-i-init c = start_filling c.requires c.store.ensures (picked_low _) sorted_none
-
-pub overflow_mul-i : goal.overflow_mul-i
-overflow_mul-i c = omega (arith, row_ended c.loop-i.invariant c.loop-i-test.true)
-
-pub overflow_add-rows : goal.overflow_add-rows
-overflow_add-rows c = omega (arith, row_ended c.loop-i.invariant c.loop-i-test.true)
-
-pub picked_row-row-requires : goal.picked_row-row-requires
-picked_row-row-requires c = ask_row_lem c.loop-i.invariant c.loop-i-test.true
 
 pub put_row-requires : goal.put_row-requires
 put_row-requires c = let g = c.loop-i.invariant in record {

@@ -1,4 +1,5 @@
 -- `intersect`: what is judged, both records loaded and intersected in a window that is lent twice, and the end of the call.
+use Rattle.rules.proofs.HandedOn.{handed_on}
 use mathlib.Core.Path.{◌≡◌, refl}
 use mathlib.Core.Bool.{◌&&◌, ◌||◌}
 use native.Mathlib.Omega.{arith}
@@ -14,107 +15,95 @@ use Rattle.judging.specs.LentSizes.{SizesKept}
 use Rattle.judging.proofs.PairCalls.{pair_early, pair_kept, pair_late, pair_late_first, pair_late_second, pair_done, late_intersect}
 use Rattle.pair_calls.proofs.InWindow.{says_in_window, only_in_window}
 use Rattle.pair_calls.proofs.Intersections.{order, both_told, unordered, in_order, ordered_in_window}
+use Rattle.pair_calls.proofs.intersect.Goals.{In_ok-judge_sizes}
 use Rattle.pair_calls.proofs.intersect.Goals as goal
 
-pub returns-in-Refused : goal.returns-in-Refused
+pub returns-in_err-judge_sizes : goal.returns-in_err-judge_sizes
 unfolding intersect_call
-returns-in-Refused c = let a = c.args in
-    pair_early intersect (order a.left.now a.right.now) a.left.now a.right.now a.res.now a.work.now c.over_record.ensures c.over_record-2.ensures c.either-over.ensures c.judge_sizes.ensures c.in-Refused.is
+returns-in_err-judge_sizes c = let a = c.args in
+    rw (handed_on c.from_residual.result c.from_residual.ensures.1)
+    (pair_early intersect (order a.left.now a.right.now) a.left.now a.right.now a.res.now a.work.now c.over_record.ensures c.over_record-2.ensures c.either-wide.ensures c.judge_sizes.ensures c.in_err-judge_sizes.was)
+
+kept_at : (c : In_ok-judge_sizes) → SizesKept (over_record c.args.left.now || over_record c.args.right.now) (length c.args.res.now) (length c.args.work.now)
+kept_at c = let a = c.args in
+    pair_kept intersect (order a.left.now a.right.now) a.left.now a.right.now a.res.now a.work.now c.over_record.ensures c.over_record-2.ensures c.either-wide.ensures c.judge_sizes.ensures c.in_ok-judge_sizes.was
 
 pub refuse-requires : goal.refuse-requires
 refuse-requires c =
-    let kept : SizesKept (over_record c.args.left.now || over_record c.args.right.now) (length c.args.res.now) (length c.args.work.now) = let a = c.args in
-    pair_kept intersect (order a.left.now a.right.now) a.left.now a.right.now a.res.now a.work.now c.over_record.ensures c.over_record-2.ensures c.either-over.ensures c.judge_sizes.ensures c.in_default.is in
+    let kept = kept_at (goal.at.refuse-requires c).In_ok-judge_sizes in
+    kept.work_long
+
+pub returns-in_default : goal.returns-in_default
+unfolding intersect_call
+returns-in_default c =
+    let kept = kept_at (goal.at.returns-in_default c).In_ok-judge_sizes in
+    let a = c.args in
+    pair_late_first intersect (order a.left.now a.right.now) a.left.now a.right.now a.res.now a.work.now kept (omega arith, tt) (none_found c.judged.ensures c.in_default.is) refl c.refuse.ensures
+
+pub refuse-requires-in_default-judged : goal.refuse-requires-in_default-judged
+refuse-requires-in_default-judged c =
+    let kept = kept_at (goal.at.refuse-requires-in_default-judged c).In_ok-judge_sizes in
     kept.work_long
 
 pub returns-in_default-judged : goal.returns-in_default-judged
 unfolding intersect_call
 returns-in_default-judged c =
-    let kept : SizesKept (over_record c.args.left.now || over_record c.args.right.now) (length c.args.res.now) (length c.args.work.now) = let a = c.args in
-    pair_kept intersect (order a.left.now a.right.now) a.left.now a.right.now a.res.now a.work.now c.over_record.ensures c.over_record-2.ensures c.either-over.ensures c.judge_sizes.ensures c.in_default.is in
+    let kept = kept_at (goal.at.returns-in_default-judged c).In_ok-judge_sizes in
     let a = c.args in
-    pair_late_first intersect (order a.left.now a.right.now) a.left.now a.right.now a.res.now a.work.now kept (omega arith, tt) (none_found c.judged.ensures c.in_default-judged.is) refl c.refuse.ensures
-
-pub refuse-requires-in_default-judged-2 : goal.refuse-requires-in_default-judged-2
-refuse-requires-in_default-judged-2 c =
-    let kept : SizesKept (over_record c.args.left.now || over_record c.args.right.now) (length c.args.res.now) (length c.args.work.now) = let a = c.args in
-    pair_kept intersect (order a.left.now a.right.now) a.left.now a.right.now a.res.now a.work.now c.over_record.ensures c.over_record-2.ensures c.either-over.ensures c.judge_sizes.ensures c.in_default.is in
-    kept.work_long
-
-pub returns-in_default-judged-2 : goal.returns-in_default-judged-2
-unfolding intersect_call
-returns-in_default-judged-2 c =
-    let kept : SizesKept (over_record c.args.left.now || over_record c.args.right.now) (length c.args.res.now) (length c.args.work.now) = let a = c.args in
-    pair_kept intersect (order a.left.now a.right.now) a.left.now a.right.now a.res.now a.work.now c.over_record.ensures c.over_record-2.ensures c.either-over.ensures c.judge_sizes.ensures c.in_default.is in
-    let a = c.args in
-    pair_late_second intersect (order a.left.now a.right.now) a.left.now a.right.now a.res.now a.work.now kept (omega arith, tt) (head_found_lem c.judged.ensures c.in-Sound.is) (found_sound c.judged.ensures c.in-Sound.is).readable refl (none_found c.judged-2.ensures c.in_default-judged-2.is) refl c.refuse-in_default-judged-2.ensures
+    pair_late_second intersect (order a.left.now a.right.now) a.left.now a.right.now a.res.now a.work.now kept (omega arith, tt) (head_found_lem c.judged.ensures c.in-Some.is) (found_sound c.judged.ensures c.in-Some.is).readable refl (none_found c.judged-2.ensures c.in_default-judged.is) refl c.refuse-in_default-judged.ensures
 
 pub refuse-requires-then-not-both : goal.refuse-requires-then-not-both
 refuse-requires-then-not-both c =
-    let kept : SizesKept (over_record c.args.left.now || over_record c.args.right.now) (length c.args.res.now) (length c.args.work.now) = let a = c.args in
-    pair_kept intersect (order a.left.now a.right.now) a.left.now a.right.now a.res.now a.work.now c.over_record.ensures c.over_record-2.ensures c.either-over.ensures c.judge_sizes.ensures c.in_default.is in
-    let sized : SizesKept (over_record c.args.left.now || over_record c.args.right.now) (length c.args.res.now) (length c.args.work.now) = kept in
-    sized.work_long
+    let kept = kept_at (goal.at.refuse-requires-then-not-both c).In_ok-judge_sizes in
+    kept.work_long
 
 pub returns-then-not-both : goal.returns-then-not-both
 unfolding intersect_call
 returns-then-not-both c =
-    let kept : SizesKept (over_record c.args.left.now || over_record c.args.right.now) (length c.args.res.now) (length c.args.work.now) = let a = c.args in
-    pair_kept intersect (order a.left.now a.right.now) a.left.now a.right.now a.res.now a.work.now c.over_record.ensures c.over_record-2.ensures c.either-over.ensures c.judge_sizes.ensures c.in_default.is in
-    let sized : SizesKept (over_record c.args.left.now || over_record c.args.right.now) (length c.args.res.now) (length c.args.work.now) = kept in
-    let both : SoundRecord c.in-Sound.first c.args.left.now × SoundRecord c.in-Sound-judged.second c.args.right.now = (
-      found_sound c.judged.ensures c.in-Sound.is,
-      found_sound c.judged-2.ensures c.in-Sound-judged.is,
+    let kept = kept_at (goal.at.returns-then-not-both c).In_ok-judge_sizes in
+    let both : SoundRecord c.in-Some.first c.args.left.now × SoundRecord c.in-Some-judged.second c.args.right.now = (
+      found_sound c.judged.ensures c.in-Some.is,
+      found_sound c.judged-2.ensures c.in-Some-judged.is,
     ) in
-    let increase : c.both.result ≡ (ordered c.args.left.now && ordered c.args.right.now) = both_told _ _ (order_found_lem c.judged.ensures c.in-Sound.is) (order_found_lem c.judged-2.ensures c.in-Sound-judged.is) c.both.ensures in
+    let increase : c.both.result ≡ (ordered c.args.left.now && ordered c.args.right.now) = both_told _ _ (order_found_lem c.judged.ensures c.in-Some.is) (order_found_lem c.judged-2.ensures c.in-Some-judged.is) c.both.ensures in
     let a = c.args in
     let r = both in
-    pair_late intersect (order a.left.now a.right.now) a.left.now a.right.now a.res.now a.work.now sized (omega arith, tt) {why = Unordered} (unordered a.left.now a.right.now increase (not-true c.both.result c.if-not-both.true-raw) r.0 r.1) c.refuse-then-not-both.ensures
+    pair_late intersect (order a.left.now a.right.now) a.left.now a.right.now a.res.now a.work.now kept (omega arith, tt) {why = Unordered} (unordered a.left.now a.right.now increase (not-true c.both.result c.if-not-both.true-raw) r.0 r.1) c.refuse-then-not-both.ensures
 
 pub slice_bounds-load_pair-end : goal.slice_bounds-load_pair-end
 slice_bounds-load_pair-end c =
-    let kept : SizesKept (over_record c.args.left.now || over_record c.args.right.now) (length c.args.res.now) (length c.args.work.now) = let a = c.args in
-    pair_kept intersect (order a.left.now a.right.now) a.left.now a.right.now a.res.now a.work.now c.over_record.ensures c.over_record-2.ensures c.either-over.ensures c.judge_sizes.ensures c.in_default.is in
-    let sized : SizesKept (over_record c.args.left.now || over_record c.args.right.now) (length c.args.res.now) (length c.args.work.now) = kept in
-    omega (arith, sized.work_long)
+    let kept = kept_at (goal.at.slice_bounds-load_pair-end c).In_ok-judge_sizes in
+    omega (arith, kept.work_long)
 
 pub load_pair-requires : goal.load_pair-requires
 load_pair-requires c =
-    let kept : SizesKept (over_record c.args.left.now || over_record c.args.right.now) (length c.args.res.now) (length c.args.work.now) = let a = c.args in
-    pair_kept intersect (order a.left.now a.right.now) a.left.now a.right.now a.res.now a.work.now c.over_record.ensures c.over_record-2.ensures c.either-over.ensures c.judge_sizes.ensures c.in_default.is in
-    let sized : SizesKept (over_record c.args.left.now || over_record c.args.right.now) (length c.args.res.now) (length c.args.work.now) = kept in
-    let both : SoundRecord c.in-Sound.first c.args.left.now × SoundRecord c.in-Sound-judged.second c.args.right.now = (
-      found_sound c.judged.ensures c.in-Sound.is,
-      found_sound c.judged-2.ensures c.in-Sound-judged.is,
+    let kept = kept_at (goal.at.load_pair-requires c).In_ok-judge_sizes in
+    let both : SoundRecord c.in-Some.first c.args.left.now × SoundRecord c.in-Some-judged.second c.args.right.now = (
+      found_sound c.judged.ensures c.in-Some.is,
+      found_sound c.judged-2.ensures c.in-Some-judged.is,
     ) in
     let r = both in record {
       sound_record = (r.0, r.1);
-      window_size_in_bounds = simp length-take (omega (arith, sized.work_long));
+      window_size_in_bounds = simp length-take (omega (arith, kept.work_long));
     }
 
 pub slice_bounds-intersect_in-end : goal.slice_bounds-intersect_in-end
 slice_bounds-intersect_in-end c =
-    let kept : SizesKept (over_record c.args.left.now || over_record c.args.right.now) (length c.args.res.now) (length c.args.work.now) = let a = c.args in
-    pair_kept intersect (order a.left.now a.right.now) a.left.now a.right.now a.res.now a.work.now c.over_record.ensures c.over_record-2.ensures c.either-over.ensures c.judge_sizes.ensures c.in_default.is in
-    let sized : SizesKept (over_record c.args.left.now || over_record c.args.right.now) (length c.args.res.now) (length c.args.work.now) = kept in
-    omega (arith, c.work-2-1.given.1, sized.work_long)
+    let kept = kept_at (goal.at.slice_bounds-intersect_in-end c).In_ok-judge_sizes in
+    omega (arith, c.work-2-1.given.1, kept.work_long)
 
 pub intersect_in-step-requires : goal.intersect_in-step-requires
 intersect_in-step-requires c =
-    let kept : SizesKept (over_record c.args.left.now || over_record c.args.right.now) (length c.args.res.now) (length c.args.work.now) = let a = c.args in
-    pair_kept intersect (order a.left.now a.right.now) a.left.now a.right.now a.res.now a.work.now c.over_record.ensures c.over_record-2.ensures c.either-over.ensures c.judge_sizes.ensures c.in_default.is in
-    let sized : SizesKept (over_record c.args.left.now || over_record c.args.right.now) (length c.args.res.now) (length c.args.work.now) = kept in
-    let increase : c.both.result ≡ (ordered c.args.left.now && ordered c.args.right.now) = both_told _ _ (order_found_lem c.judged.ensures c.in-Sound.is) (order_found_lem c.judged-2.ensures c.in-Sound-judged.is) c.both.ensures in
+    let kept = kept_at (goal.at.intersect_in-step-requires c).In_ok-judge_sizes in
+    let increase : c.both.result ≡ (ordered c.args.left.now && ordered c.args.right.now) = both_told _ _ (order_found_lem c.judged.ensures c.in-Some.is) (order_found_lem c.judged-2.ensures c.in-Some-judged.is) c.both.ensures in
     let a = c.args in
-    ordered_in_window a.left.now a.right.now increase (not-false c.both.result c.if-not-both.false-raw) a.work.now sized.work_long c.load_pair.ensures c.work-2-1.given.0
+    ordered_in_window a.left.now a.right.now increase (not-false c.both.result c.if-not-both.false-raw) a.work.now kept.work_long c.load_pair.ensures c.work-2-1.given.0
 
 pub finish-requires : goal.finish-requires
 finish-requires c =
-    let kept : SizesKept (over_record c.args.left.now || over_record c.args.right.now) (length c.args.res.now) (length c.args.work.now) = let a = c.args in
-    pair_kept intersect (order a.left.now a.right.now) a.left.now a.right.now a.res.now a.work.now c.over_record.ensures c.over_record-2.ensures c.either-over.ensures c.judge_sizes.ensures c.in_default.is in
-    let sized : SizesKept (over_record c.args.left.now || over_record c.args.right.now) (length c.args.res.now) (length c.args.work.now) = kept in
+    let kept = kept_at (goal.at.finish-requires c).In_ok-judge_sizes in
     let a = c.args in
-    let k = sized in record {
+    let k = kept in record {
       work_size_in_bounds = (omega (arith, c.work-3-1.given.1, c.work-2-1.given.1, k.work_long), k.result_long);
       holds = (says_in_window a.work.now k.work_long c.load_pair.ensures c.work-2-1.given.0 c.intersect_in-step.ensures).holds;
     }
@@ -125,16 +114,14 @@ shape_of-work c = omega (arith, c.work-4-1.given, c.work-3-1.given.1, c.work-2-1
 pub returns : goal.returns
 unfolding intersect_call
 returns c =
-    let kept : SizesKept (over_record c.args.left.now || over_record c.args.right.now) (length c.args.res.now) (length c.args.work.now) = let a = c.args in
-    pair_kept intersect (order a.left.now a.right.now) a.left.now a.right.now a.res.now a.work.now c.over_record.ensures c.over_record-2.ensures c.either-over.ensures c.judge_sizes.ensures c.in_default.is in
-    let sized : SizesKept (over_record c.args.left.now || over_record c.args.right.now) (length c.args.res.now) (length c.args.work.now) = kept in
-    let both : SoundRecord c.in-Sound.first c.args.left.now × SoundRecord c.in-Sound-judged.second c.args.right.now = (
-      found_sound c.judged.ensures c.in-Sound.is,
-      found_sound c.judged-2.ensures c.in-Sound-judged.is,
+    let kept = kept_at (goal.at.returns c).In_ok-judge_sizes in
+    let both : SoundRecord c.in-Some.first c.args.left.now × SoundRecord c.in-Some-judged.second c.args.right.now = (
+      found_sound c.judged.ensures c.in-Some.is,
+      found_sound c.judged-2.ensures c.in-Some-judged.is,
     ) in
-    let increase : c.both.result ≡ (ordered c.args.left.now && ordered c.args.right.now) = both_told _ _ (order_found_lem c.judged.ensures c.in-Sound.is) (order_found_lem c.judged-2.ensures c.in-Sound-judged.is) c.both.ensures in
+    let increase : c.both.result ≡ (ordered c.args.left.now && ordered c.args.right.now) = both_told _ _ (order_found_lem c.judged.ensures c.in-Some.is) (order_found_lem c.judged-2.ensures c.in-Some-judged.is) c.both.ensures in
     let a = c.args in
-    let k = sized in
+    let k = kept in
     let r = both in
     pair_done intersect (order a.left.now a.right.now) a.left.now a.right.now a.res.now a.work.now k r.0 r.1 (in_order a.left.now a.right.now increase (not-false c.both.result c.if-not-both.false-raw)) (late_intersect _ _)
     (says_in_window a.work.now k.work_long c.load_pair.ensures c.work-2-1.given.0 c.intersect_in-step.ensures)

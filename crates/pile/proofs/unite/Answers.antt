@@ -1,9 +1,8 @@
 -- `unite`: the window is lent to the union, and what it made is moved.
+use Rattle.rules.proofs.HandedOn.{handed_on}
 use mathlib.Core.Path.{refl}
-use mathlib.Core.Logic.{inl}
-use native.Mathlib.Omega.{arith}
 use Rattle.rules.proofs.Same.{true_not_false}
-use Rattle.pile.proofs.Uniting.{window_lent, came_long, united_done, united_refused}
+use Rattle.pile.proofs.Uniting.{window_lent, united_done, united_refused}
 use Rattle.pile.proofs.unite.Goals as goal
 
 pub union_in-requires : goal.union_in-requires
@@ -12,14 +11,10 @@ union_in-requires c = record {
   rising = λ e. absurd (true_not_false e refl);
 }
 
-pub move_part-requires : goal.move_part-requires
-move_part-requires c = let long = came_long _ c.requires.1 c.requires.0 c.union_in.ensures in record {
-  n_in_bounds = (omega (arith, long), omega (arith, long));
-  fact = inl (omega arith);
-}
+pub returns : goal.returns
+returns c = united_done _ c.requires.1 c.requires.0 c.union_in.ensures c.in_ok-union_in.was c.move_part.ensures
 
-pub returns-in-Done : goal.returns-in-Done
-returns-in-Done c = united_done _ c.requires.1 c.requires.0 c.union_in.ensures c.in-Done.is c.move_part.ensures
-
-pub returns-in-Refused : goal.returns-in-Refused
-returns-in-Refused c = united_refused _ c.requires.1 c.requires.0 c.union_in.ensures c.in-Refused.is
+pub returns-in_err-union_in : goal.returns-in_err-union_in
+returns-in_err-union_in c =
+    rw (handed_on c.from_residual.result c.from_residual.ensures.1)
+    (united_refused _ c.requires.1 c.requires.0 c.union_in.ensures c.in_err-union_in.was)

@@ -1,8 +1,12 @@
 -- `in_range`: the entry is held against the shape, then against the range.
+use mathlib.Core.Path.{◌≡◌, ◌∙◌}
+use mathlib.Core.Bool.{◌&&◌}
+use Rattle.std.proofs.lemmas.Bool.Decides.{nat_tests}
+use lib.Dec.{leb, ltb}
 use native.Mathlib.Omega.{arith}
 use borrow.Author.Rules.{rules}
 use Rattle.records.proofs.Naturals.{has_front}
-use Rattle.range.proofs.Entries.{ranging}
+use Rattle.range.proofs.Entries.{out_of_shape, told_range}
 use Rattle.range.proofs.in_range.Goals as goal
 
 pub row_below-requires : goal.row_below-requires
@@ -12,10 +16,9 @@ row_below-requires c = record {
 }
 
 pub returns-then-not-row_below : goal.returns-then-not-row_below
-returns-then-not-row_below c = search (rules, ranging)
-
-pub returns-then-component-cut : goal.returns-then-component-cut
-returns-then-component-cut c = search (rules, ranging)
+returns-then-not-row_below c = search (rules, out_of_shape)
 
 pub returns : goal.returns
-returns c = search (rules, ranging)
+returns c =
+    let told : c.contains.result ≡ leb c.args.cut.start c.get.result && ltb c.get.result c.args.cut.end = grind (arith, nat_tests) in
+    told ∙ told_range c.requires c.row_below.ensures c.if-not-row_below.false c.get.ensures.0

@@ -7,13 +7,9 @@ use Rattle.record_text.proofs.write_layout.Goals as goal
 pub returns-in_default : goal.returns-in_default
 returns-in_default c = absurd (not_broken c.args.s.now c.requires.0 c.walk_record.ensures c.in_default.is)
 
-pub overflow_add-rows : goal.overflow_add-rows
-overflow_add-rows c = let turn = in_turn_lem c.args.s.now c.requires.0 c.walk_record.ensures c.in-To.is in
-    omega arith
-
 pub write_lines-requires : goal.write_lines-requires
-write_lines-requires c = let turn = in_turn_lem c.args.s.now c.requires.0 c.walk_record.ensures c.in-To.is in
-    (turn.0, omega arith)
+write_lines-requires c = let turn = in_turn_lem c.args.s.now c.requires.0 c.walk_record.ensures c.in-Some.is in
+    record { in_turn = turn.0; room = omega arith }
 
 pub returns : goal.returns
-returns c = front_is (lines_are c.args.s.now c.requires.0 c.walk_record.ensures c.in-To.is) c.write_lines.ensures
+returns c = front_is (lines_are c.args.s.now c.requires.0 c.walk_record.ensures c.in-Some.is) c.write_lines.ensures

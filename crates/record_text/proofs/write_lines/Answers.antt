@@ -4,5 +4,5 @@ use Rattle.record_text.proofs.Sections.{five_wrote}
 use Rattle.record_text.proofs.write_lines.Goals as goal
 
 pub returns : goal.returns
-returns c = five_wrote c.args.s.now c.requires.0 c.requires.1 (omega arith) (omega arith) (omega arith) (omega arith)
+returns c = five_wrote c.args.s.now c.requires.in_turn c.requires.room (omega arith) (omega arith) (omega arith) (omega arith)
     c.write_part-at.ensures c.write_part-at-2.ensures c.write_part-at-3.ensures c.write_part-at-4.ensures c.write_part.ensures

@@ -1,25 +1,17 @@
 -- `all_natural`: at each turn the least of the first k numbers and 0 is known.
-use native.Mathlib.Omega.{arith}
+use lib.IntN.{pos}
+use lib.ListN.{get_or}
+use mir.Syntax.{w32}
+use mir.Val.{SFits}
 use borrow.Author.Rules.{rules}
-use Rattle.records.proofs.Numbers.{least_start, least_falls, least_stays, least_tells, all_low}
+use Rattle.cells.proofs.Signed.{back}
+use Rattle.records.proofs.Numbers.{least_of_two, least_tells, all_low}
 use Rattle.records.proofs.all_natural.Goals as goal
-use Rattle.records.proofs.all_natural.Goals.{then-number-least, else-number-least}
-
-pub loop-k-init : goal.loop-k-init
-loop-k-init c = search (rules, least_start)
-
-pub overflow_step-k : goal.overflow_step-k
-overflow_step-k c = omega arith
-
-pub loop-k-smaller : goal.loop-k-smaller
-loop-k-smaller c = omega arith
 
 pub loop-k-preserved : goal.loop-k-preserved
 loop-k-preserved c =
-    elim c.if-number-least.branch [
-      | then-number-least w ↦ least_falls c.loop-k.invariant c.loop-k-test.true c.number-1.given w.if-number-least.true w.least-is
-      | else-number-least w ↦ least_stays c.loop-k.invariant c.loop-k-test.true c.number-1.given w.if-number-least.false w.least-is
-    ]
+    let x : SFits w32 (get_or c.args.s.now c.loop-k.k (pos 0)) = search rules in
+    rw (back c.min-least.result c.min-least.type_inv) (least_of_two c.loop-k.invariant c.loop-k-test.true x.sfits c.min-least.ensures)
 
 pub returns : goal.returns
 returns c = record {

@@ -6,8 +6,8 @@ use Rattle.records.proofs.over_record.Goals as goal
 pub returns-then-s-le-RANK : goal.returns-then-s-le-RANK
 returns-then-s-le-RANK c = search (rules, ranks)
 
-pub returns-in-Natural : goal.returns-in-Natural
-returns-in-Natural c = search (rules, ranks)
+pub returns-in-Some : goal.returns-in-Some
+returns-in-Some c = search (rules, ranks)
 
-pub returns-in-Negative : goal.returns-in-Negative
-returns-in-Negative c = search (rules, ranks)
+pub returns-in-None : goal.returns-in-None
+returns-in-None c = search (rules, ranks)

@@ -16,9 +16,6 @@ returns-in_default-sign_of c = record {
   place = begins _ _ {k = 0} (search (rules, places)) refl;
 }
 
-pub row_of-requires : goal.row_of-requires
-row_of-requires c = search (rules, rows)
-
 pub returns : goal.returns
 returns c = record {
   is = search (rules, rows);

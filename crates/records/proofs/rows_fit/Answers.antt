@@ -9,9 +9,6 @@ returns-then-not-rows_below c = search (rules, fits)
 pub returns-then-is_increasing : goal.returns-then-is_increasing
 returns-then-is_increasing c = search (rules, fits)
 
-pub differ-requires : goal.differ-requires
-differ-requires c = search (rules, fits)
-
 pub returns-then-differ : goal.returns-then-differ
 returns-then-differ c = search (rules, fits)
 

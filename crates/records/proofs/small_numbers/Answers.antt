@@ -9,9 +9,6 @@ low-requires c = search (rules, two_small)
 pub returns-then-low-gt-COMPONENT_LIMIT : goal.returns-then-low-gt-COMPONENT_LIMIT
 returns-then-low-gt-COMPONENT_LIMIT c = search (rules, two_small)
 
-pub overflow_add-a : goal.overflow_add-a
-overflow_add-a c = search (rules, two_small)
-
 pub low-requires-then-n-eq2 : goal.low-requires-then-n-eq2
 low-requires-then-n-eq2 c = search (rules, two_small)
 
@@ -21,20 +18,11 @@ returns-then-n-eq2 c = search (rules, two_small)
 pub loop-k-init : goal.loop-k-init
 loop-k-init c = search (rules, smalls)
 
-pub overflow_add-a-in-loop-k : goal.overflow_add-a-in-loop-k
-overflow_add-a-in-loop-k c = search (rules, smalls)
-
 pub low-requires-in-loop-k : goal.low-requires-in-loop-k
 low-requires-in-loop-k c = search (rules, smalls)
 
 pub returns-then-low-gt-COMPONENT_LIMIT-2 : goal.returns-then-low-gt-COMPONENT_LIMIT-2
 returns-then-low-gt-COMPONENT_LIMIT-2 c = search (rules, smalls)
-
-pub overflow_step-k : goal.overflow_step-k
-overflow_step-k c = search (rules, smalls)
-
-pub loop-k-smaller : goal.loop-k-smaller
-loop-k-smaller c = search (rules, smalls)
 
 pub loop-k-preserved : goal.loop-k-preserved
 loop-k-preserved c = search (rules, smalls)

@@ -1,10 +1,7 @@
--- `sound`: a record that is found is sound, and one that is not is not.
-use mathlib.Core.Path.{sym}
-use Rattle.records.proofs.SoundRecords.{found_unsound, found_sound}
+-- `sound`: a finding is there exactly if the record is sound.
+use Rattle.std.proofs.Common.{rules}
+use Rattle.records.proofs.SoundRecords.{is_found}
 use Rattle.records.proofs.sound.Goals as goal
 
-pub returns-in-Sound : goal.returns-in-Sound
-returns-in-Sound c = sym (found_sound c.judged.ensures c.in-Sound.is).judged
-
-pub returns-in-Unsound : goal.returns-in-Unsound
-returns-in-Unsound c = sym (search found_unsound)
+pub returns : goal.returns
+returns c = search (rules, is_found c.judged.result c.judged.ensures)

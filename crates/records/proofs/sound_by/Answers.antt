@@ -27,7 +27,7 @@ returns-then-not-within_sizes c = record {
 pub well_formed-requires : goal.well_formed-requires
 well_formed-requires c = record {
   readable = search (rules, is_readable);
-  s_value = sym c.within_sizes.ensures ∙ not-false _ c.if-not-within_sizes.false-raw;
+  sizes_kept = sym c.within_sizes.ensures ∙ not-false _ c.if-not-within_sizes.false-raw;
 }
 
 pub returns : goal.returns
@@ -35,6 +35,3 @@ returns c = record {
   is = search (rules, judged);
   readable = fit_readable c.well_formed-2.result (search is_readable);
 }
-
-pub within_sizes-requires : goal.within_sizes-requires
-within_sizes-requires c = search (rules, judged)

@@ -1,4 +1,5 @@
 -- `contract_last_axis`: what is judged, the step in the first part of the working buffer, and the end of the call.
+use Rattle.rules.proofs.HandedOn.{handed_on}
 use mathlib.Core.List.{[]}
 use native.Mathlib.Omega.{arith}
 use lib.ListN.{length, length-take}
@@ -12,52 +13,50 @@ use Rattle.parts.proofs.Ending.{AboveTwo}
 use Rattle.judging.specs.LentSizes.{SizesKept}
 use Rattle.judging.proofs.RecordCalls.{record_early, record_kept, record_unsound, record_says, record_done}
 use Rattle.judging.proofs.Endings.{nothing_more}
+use Rattle.reshape_calls.proofs.contract_last_axis.Goals.{In_ok-judge_sizes}
 use Rattle.reshape_calls.proofs.contract_last_axis.Goals as goal
 
-pub returns-in-Refused : goal.returns-in-Refused
+pub returns-in_err-judge_sizes : goal.returns-in_err-judge_sizes
 unfolding contract_last_axis_call
-returns-in-Refused c = let a = c.args in
-    record_early (over_record a.«record».now) [] (contract_last_axis (layout_in a.«record».now)) a.«record».now a.res.now a.work.now c.over_record-over.ensures c.judge_sizes.ensures c.in-Refused.is
+returns-in_err-judge_sizes c = let a = c.args in
+    rw (handed_on c.from_residual.result c.from_residual.ensures.1)
+    (record_early (over_record a.«record».now) [] (contract_last_axis (layout_in a.«record».now)) a.«record».now a.res.now a.work.now c.over_record-over.ensures c.judge_sizes.ensures c.in_err-judge_sizes.was)
+
+kept_at : (c : In_ok-judge_sizes) → SizesKept (over_record c.args.«record».now) (length c.args.res.now) (length c.args.work.now)
+kept_at c = let a = c.args in
+    record_kept (over_record a.«record».now) [] (contract_last_axis (layout_in a.«record».now)) a.«record».now a.res.now a.work.now c.over_record-over.ensures c.judge_sizes.ensures c.in_ok-judge_sizes.was
 
 pub refuse-requires : goal.refuse-requires
 refuse-requires c =
-    let kept : SizesKept (over_record c.args.«record».now) (length c.args.res.now) (length c.args.work.now) = let a = c.args in
-    record_kept (over_record a.«record».now) [] (contract_last_axis (layout_in a.«record».now)) a.«record».now a.res.now a.work.now c.over_record-over.ensures c.judge_sizes.ensures c.in_default.is in
+    let kept = kept_at (goal.at.refuse-requires c).In_ok-judge_sizes in
     kept.work_long
 
-pub returns-in_default-sound_head : goal.returns-in_default-sound_head
+pub returns-in_default : goal.returns-in_default
 unfolding contract_last_axis_call
-returns-in_default-sound_head c =
-    let kept : SizesKept (over_record c.args.«record».now) (length c.args.res.now) (length c.args.work.now) = let a = c.args in
-    record_kept (over_record a.«record».now) [] (contract_last_axis (layout_in a.«record».now)) a.«record».now a.res.now a.work.now c.over_record-over.ensures c.judge_sizes.ensures c.in_default.is in
+returns-in_default c =
+    let kept = kept_at (goal.at.returns-in_default c).In_ok-judge_sizes in
     let a = c.args in
-    record_unsound (over_record a.«record».now) [] (contract_last_axis (layout_in a.«record».now)) a.«record».now a.res.now a.work.now kept tt c.sound_head.ensures.is c.in_default-sound_head.is c.refuse.ensures
+    record_unsound (over_record a.«record».now) [] (contract_last_axis (layout_in a.«record».now)) a.«record».now a.res.now a.work.now kept tt c.sound_head.ensures.is c.in_default.is c.refuse.ensures
 
 pub slice_bounds-contract_into-end : goal.slice_bounds-contract_into-end
 slice_bounds-contract_into-end c =
-    let kept : SizesKept (over_record c.args.«record».now) (length c.args.res.now) (length c.args.work.now) = let a = c.args in
-    record_kept (over_record a.«record».now) [] (contract_last_axis (layout_in a.«record».now)) a.«record».now a.res.now a.work.now c.over_record-over.ensures c.judge_sizes.ensures c.in_default.is in
-    let sized : SizesKept (over_record c.args.«record».now) (length c.args.res.now) (length c.args.work.now) = kept in
-    omega (arith, sized.work_long)
+    let kept = kept_at (goal.at.slice_bounds-contract_into-end c).In_ok-judge_sizes in
+    omega (arith, kept.work_long)
 
 pub contract_into-step-requires : goal.contract_into-step-requires
 contract_into-step-requires c =
-    let kept : SizesKept (over_record c.args.«record».now) (length c.args.res.now) (length c.args.work.now) = let a = c.args in
-    record_kept (over_record a.«record».now) [] (contract_last_axis (layout_in a.«record».now)) a.«record».now a.res.now a.work.now c.over_record-over.ensures c.judge_sizes.ensures c.in_default.is in
-    let sized : SizesKept (over_record c.args.«record».now) (length c.args.res.now) (length c.args.work.now) = kept in
-    let judged : SoundRecord c.in-To.head c.args.«record».now = sound_record _ c.sound_head.ensures.is c.sound_head.ensures.readable c.in-To.is in record {
+    let kept = kept_at (goal.at.contract_into-step-requires c).In_ok-judge_sizes in
+    let judged : SoundRecord c.in-Some.head c.args.«record».now = sound_record _ c.sound_head.ensures.is c.sound_head.ensures.readable c.in-Some.is in record {
       sound_record = judged;
-      part_size_in_bounds = simp length-take (omega (arith, sized.work_long));
+      part_size_in_bounds = simp length-take (omega (arith, kept.work_long));
     }
 
 pub finish-requires : goal.finish-requires
 finish-requires c =
-    let kept : SizesKept (over_record c.args.«record».now) (length c.args.res.now) (length c.args.work.now) = let a = c.args in
-    record_kept (over_record a.«record».now) [] (contract_last_axis (layout_in a.«record».now)) a.«record».now a.res.now a.work.now c.over_record-over.ensures c.judge_sizes.ensures c.in_default.is in
-    let sized : SizesKept (over_record c.args.«record».now) (length c.args.res.now) (length c.args.work.now) = kept in
-    let judged : SoundRecord c.in-To.head c.args.«record».now = sound_record _ c.sound_head.ensures.is c.sound_head.ensures.readable c.in-To.is in
+    let kept = kept_at (goal.at.finish-requires c).In_ok-judge_sizes in
+    let judged : SoundRecord c.in-Some.head c.args.«record».now = sound_record _ c.sound_head.ensures.is c.sound_head.ensures.readable c.in-Some.is in
     let a = c.args in
-    let k = sized in record {
+    let k = kept in record {
       work_size_in_bounds = (omega (arith, c.work-2-1.given.1, k.work_long), k.result_long);
       holds = (record_says (over_record a.«record».now) [] (contract_last_axis (layout_in a.«record».now)) a.«record».now a.res.now a.work.now k tt judged c.work-2-1.given.0 c.contract_into-step.ensures).holds;
     }
@@ -65,10 +64,8 @@ finish-requires c =
 pub returns : goal.returns
 unfolding contract_last_axis_call
 returns c =
-    let kept : SizesKept (over_record c.args.«record».now) (length c.args.res.now) (length c.args.work.now) = let a = c.args in
-    record_kept (over_record a.«record».now) [] (contract_last_axis (layout_in a.«record».now)) a.«record».now a.res.now a.work.now c.over_record-over.ensures c.judge_sizes.ensures c.in_default.is in
-    let sized : SizesKept (over_record c.args.«record».now) (length c.args.res.now) (length c.args.work.now) = kept in
-    let judged : SoundRecord c.in-To.head c.args.«record».now = sound_record _ c.sound_head.ensures.is c.sound_head.ensures.readable c.in-To.is in
+    let kept = kept_at (goal.at.returns c).In_ok-judge_sizes in
+    let judged : SoundRecord c.in-Some.head c.args.«record».now = sound_record _ c.sound_head.ensures.is c.sound_head.ensures.readable c.in-Some.is in
     let a = c.args in
-    record_done (over_record a.«record».now) [] (contract_last_axis (layout_in a.«record».now)) a.«record».now a.res.now a.work.now sized tt judged c.work-2-1.given.0 c.contract_into-step.ensures
+    record_done (over_record a.«record».now) [] (contract_last_axis (layout_in a.«record».now)) a.«record».now a.res.now a.work.now kept tt judged c.work-2-1.given.0 c.contract_into-step.ensures
     nothing_more (contract_refusing_sound AboveTwo (omega arith) (layout_sound judged)) c.finish.ensures

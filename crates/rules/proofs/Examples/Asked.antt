@@ -4,8 +4,8 @@ use mathlib.Core.Bool.{Bool, true, false}
 use mathlib.Core.List.{List, [], ◌∷◌, map}
 use Prim.Native.Nat.{ℕ}
 use lib.IntN.{ℤ, pos, negsuc}
-use Rattle.rules.specs.declared.Ordering.{Ordering}
-use Rattle.rules.specs.declared.Ordering.TheVariants.{Less, Equal, Greater}
+use Rattle.std.specs.declared.cmp.Ordering.{Ordering}
+use Rattle.std.specs.declared.cmp.Ordering.TheVariants.{Less, Equal, Greater}
 use Rattle.rules.specs.Arguments.{up_to, good_components}
 use Rattle.rules.specs.Broadcast.{rule_of, combine, stretch_all, fold_onto, fold_back, end_of_broadcast, broadcast, broadcast_call, broadcast_with_mode_call}
 use Rattle.rules.specs.Buffers.{part, over, put}
@@ -17,7 +17,7 @@ use Rattle.rules.specs.Endings.{result_after, work_after, Lookup, found, nothing
 use Rattle.rules.specs.FilterDepsFrom.{cut_deps, filter_deps_from, filter_deps_from_call}
 use Rattle.rules.specs.Holding.{holds}
 use Rattle.rules.specs.Intersect.{with_dense, intersect_of_rows, intersect, intersect_call}
-use Rattle.rules.specs.Layout.{within_product, alike, well_formed, within_sizes, sound_layout, made, encode}
+use Rattle.rules.specs.Layout.{kind_of, within_product, alike, well_formed, within_sizes, sound_layout, made, encode}
 use Rattle.rules.specs.Lists.{all, any, keep, gather, none, from, product, sum, largest, same, same_rows, all_below, with, fit_to}
 use Rattle.rules.specs.Lookup.{read_index, place_from, place_of, lookup, find_nnz_index_call, place_number, good_indices, places_of, find_nnz_indices_call}
 use Rattle.rules.specs.Pairs.{expanded, lowered}

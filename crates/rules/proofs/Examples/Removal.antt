@@ -5,8 +5,8 @@ use mathlib.Core.Bool.{Bool, true, false}
 use mathlib.Core.List.{List, [], ◌∷◌, map}
 use Prim.Native.Nat.{ℕ}
 use lib.IntN.{ℤ, pos, negsuc}
-use Rattle.rules.specs.declared.Ordering.{Ordering}
-use Rattle.rules.specs.declared.Ordering.TheVariants.{Less, Equal, Greater}
+use Rattle.std.specs.declared.cmp.Ordering.{Ordering}
+use Rattle.std.specs.declared.cmp.Ordering.TheVariants.{Less, Equal, Greater}
 use Rattle.rules.specs.Refusals.{given, refused}
 use Rattle.rules.specs.Endings.{found, nothing}
 use Rattle.rules.proofs.Examples.Asked.{nums, ask_union, ask_intersect}

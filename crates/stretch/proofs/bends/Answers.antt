@@ -1,12 +1,10 @@
--- `bends`: each answer by its own law.
-use Rattle.rules.specs.Layout.{alike}
-use Rattle.stretch.proofs.Bending.{straight, bent}
-use Rattle.tables.specs.Rows.{row_at}
+-- `bends`: by the kind.
+use borrow.Author.Tests.{ne_eqb}
+use Rattle.rules.proofs.KindRead.{diagonal_number, not_diagonal}
 use Rattle.stretch.proofs.bends.Goals as goal
 
-pub returns-then-get-ne1 : goal.returns-then-get-ne1
-returns-then-get-ne1 c = let a = c.args in
-    straight _ (alike (row_at a.at a.width a.shape.now)) c.get.ensures.0 c.if-get-ne1.true
+pub returns-in-Diagonal : goal.returns-in-Diagonal
+returns-in-Diagonal c = rw (diagonal_number c.kind_at.ensures c.in-Diagonal.is, c.alike.ensures)
 
-pub returns : goal.returns
-returns c = bent _ _ c.get.ensures.0 c.if-get-ne1.false c.alike.ensures
+pub returns-in_default : goal.returns-in_default
+returns-in_default c = rw (ne_eqb _ 1 (not_diagonal c.kind_at.ensures c.in_default.not-Diagonal))

@@ -3,26 +3,20 @@ use Rattle.stretch.proofs.Filling.{ask_rows, rows_over, ask_states, states_over,
 use borrow.Author.Rules.{rules}
 use Rattle.stretch.proofs.fill.Goals as goal
 
-pub spread_extents-extents-requires : goal.spread_extents-extents-requires
-spread_extents-extents-requires c = let a = c.requires in record {
-  shapes = a.asked.shapes;
-  w_le_rank = a.wide;
-}
-
 pub stretch_rows-requires : goal.stretch_rows-requires
 stretch_rows-requires c = ask_rows c.requires c.spread_extents-extents.result (search rules) c.spread_extents-extents.ensures
 
 pub returns-then-not-stretch_rows : goal.returns-then-not-stretch_rows
-returns-then-not-stretch_rows c = rows_over c.requires c.spread_extents-extents.result (search rules) c.spread_extents-extents.ensures c.stretch_rows.ensures _ c.if-not-stretch_rows.true-raw
+returns-then-not-stretch_rows c = rows_over c.requires c.spread_extents-extents.result (search rules) c.spread_extents-extents.ensures c.stretch_rows.ensures _ c.if-not-stretch_rows.true
 
 pub stretch_deps-requires : goal.stretch_deps-requires
-stretch_deps-requires c = ask_states c.requires c.spread_extents-extents.result (search rules) c.spread_extents-extents.ensures c.stretch_rows.ensures c.if-not-stretch_rows.false-raw
+stretch_deps-requires c = ask_states c.requires c.spread_extents-extents.result (search rules) c.spread_extents-extents.ensures c.stretch_rows.ensures c.if-not-stretch_rows.false
 
 pub returns-then-not-stretch_deps : goal.returns-then-not-stretch_deps
-returns-then-not-stretch_deps c = states_over c.requires c.spread_extents-extents.result (search rules) c.spread_extents-extents.ensures c.stretch_rows.ensures c.if-not-stretch_rows.false-raw _ c.stretch_deps.ensures c.if-not-stretch_deps.true-raw
+returns-then-not-stretch_deps c = states_over c.requires c.spread_extents-extents.result (search rules) c.spread_extents-extents.ensures c.stretch_rows.ensures c.if-not-stretch_rows.false _ c.stretch_deps.ensures c.if-not-stretch_deps.true
 
 pub stretch_deps-requires-2 : goal.stretch_deps-requires-2
-stretch_deps-requires-2 c = ask_inputs c.requires c.spread_extents-extents.result (search rules) c.spread_extents-extents.ensures c.stretch_rows.ensures c.if-not-stretch_rows.false-raw _ c.stretch_deps.ensures c.if-not-stretch_deps.false-raw
+stretch_deps-requires-2 c = ask_inputs c.requires c.spread_extents-extents.result (search rules) c.spread_extents-extents.ensures c.stretch_rows.ensures c.if-not-stretch_rows.false _ c.stretch_deps.ensures c.if-not-stretch_deps.false
 
 pub returns : goal.returns
-returns c = tables_made c.requires c.spread_extents-extents.result (search rules) c.spread_extents-extents.ensures c.stretch_rows.ensures c.if-not-stretch_rows.false-raw _ c.stretch_deps.ensures c.if-not-stretch_deps.false-raw c.stretch_deps-2.ensures
+returns c = tables_made c.requires c.spread_extents-extents.result (search rules) c.spread_extents-extents.ensures c.stretch_rows.ensures c.if-not-stretch_rows.false _ c.stretch_deps.ensures c.if-not-stretch_deps.false c.stretch_deps-2.ensures

@@ -1,12 +1,12 @@
--- `grown`: by the tests for a digit.
-use borrow.Author.Tests.{le-leb, lt-leb}
+-- `grown`: a byte that is no digit makes a value above every limit.
+use mathlib.Core.Path.{◌≡◌, sym}
+use mathlib.Core.Bool.{false}
+use borrow.Author.Tests.{lt-leb}
+use native.Mathlib.Omega.{arith}
+use Rattle.text.specs.Read.{is_digit}
 use Rattle.text.proofs.grown.Goals as goal
 
-pub returns-then-byte-lt48 : goal.returns-then-byte-lt48
-returns-then-byte-lt48 c = rw (lt-leb 48 c.args.byte c.if-byte-lt48.true)
-
-pub returns-then-byte-gt57 : goal.returns-then-byte-gt57
-returns-then-byte-gt57 c = rw (le-leb 48 c.args.byte c.if-byte-lt48.false, lt-leb c.args.byte 57 c.if-byte-gt57.true)
-
-pub returns : goal.returns
-returns c = rw (le-leb 48 c.args.byte c.if-byte-lt48.false, le-leb c.args.byte 57 c.if-byte-gt57.false)
+pub returns-then-not-is_ascii_digit : goal.returns-then-not-is_ascii_digit
+returns-then-not-is_ascii_digit c =
+    let no : is_digit c.args.byte ≡ false = sym c.if-not-is_ascii_digit.ensures.value in
+    rw (no, lt-leb 2147483649 c.args.limit (omega arith))

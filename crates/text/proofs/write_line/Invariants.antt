@@ -1,11 +1,6 @@
 -- `write_line`: at each turn the first i numbers are written.
-use Prim.Native.Nat.{◌-◌}
-use lib.ListN.{length}
 use Rattle.text.proofs.Spelling.{Lining}
 use Rattle.text.proofs.write_line.Given as goal
 
 abbrev pub invariant-loop-i : goal.invariant-loop-i
 invariant-loop-i l = Lining l.line l.at l.initial.out l.i l.next l.out
-
-abbrev pub decreases-loop-i : goal.decreases-loop-i
-decreases-loop-i l = length l.line - l.i

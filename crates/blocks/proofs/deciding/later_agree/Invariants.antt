@@ -5,7 +5,7 @@ use Rattle.blocks.proofs.Ways.{AxesTo, later_test}
 use Rattle.blocks.proofs.deciding.later_agree.Given as goal
 
 abbrev pub invariant-loop-axis : goal.invariant-loop-axis
-invariant-loop-axis l = AxesTo (later_test (layouts_at l.n l.records l.s)) 1 l.rank l.axis
+invariant-loop-axis l = AxesTo (later_test (layouts_at l.records.count l.records.at l.s)) 1 l.rank l.axis
 
 abbrev pub decreases-loop-axis : goal.decreases-loop-axis
 decreases-loop-axis l = l.rank - l.axis

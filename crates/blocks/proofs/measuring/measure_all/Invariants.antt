@@ -7,7 +7,7 @@ use Rattle.blocks.proofs.Measures.{FoldTo}
 use Rattle.blocks.proofs.measuring.measure_all.Given as goal
 
 abbrev pub invariant-loop-i : goal.invariant-loop-i
-invariant-loop-i l = FoldTo l.how (measure l.what) l.n l.i (blocks_by rank_limit l.n l.records l.starts l.s) l.total
+invariant-loop-i l = FoldTo l.how (measure l.what) l.records.count l.i (blocks_by rank_limit l.records.count l.records.at l.starts l.s) l.total
 
 abbrev pub decreases-loop-i : goal.decreases-loop-i
-decreases-loop-i l = l.n - l.i
+decreases-loop-i l = l.records.count - l.i

@@ -3,9 +3,6 @@ use borrow.Author.Rules.{rules}
 use Rattle.combine.proofs.Completing.{laws}
 use Rattle.combine.proofs.window.complete.Goals as goal
 
-pub write_head-requires : goal.write_head-requires
-write_head-requires c = search (rules, laws)
-
 pub merge_deps-requires : goal.merge_deps-requires
 merge_deps-requires c = search (rules, laws)
 

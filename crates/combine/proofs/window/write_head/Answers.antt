@@ -4,9 +4,6 @@ use borrow.Author.Rules.{rules}
 use Rattle.combine.proofs.Heads.{laws, dense_small}
 use Rattle.combine.proofs.window.write_head.Goals as goal
 
-pub move_part-requires : goal.move_part-requires
-move_part-requires c = search (rules, laws)
-
 pub store-requires-2 : goal.store-requires-2
 store-requires-2 c = (search rules, omega (arith, dense_small c.requires))
 

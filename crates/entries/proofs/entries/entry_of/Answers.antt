@@ -3,17 +3,11 @@ use Rattle.entries.proofs.Listing.{entering}
 use borrow.Author.Rules.{rules}
 use Rattle.entries.proofs.entries.entry_of.Goals as goal
 
-pub row_of-requires : goal.row_of-requires
-row_of-requires c = search (rules, entering)
-
 pub dep_of-requires : goal.dep_of-requires
 dep_of-requires c = search (rules, entering)
 
 pub dep_of-requires-in-Inputs : goal.dep_of-requires-in-Inputs
 dep_of-requires-in-Inputs c = search (rules, entering)
-
-pub returns-in-Rows : goal.returns-in-Rows
-returns-in-Rows c = search (rules, entering)
 
 pub returns-in-States : goal.returns-in-States
 returns-in-States c = search (rules, entering)

@@ -25,13 +25,13 @@ slice_bounds-list_block-start c = let h = record_inside c.requires.block_asked i
     search rules
 
 pub list_block-requires : goal.list_block-requires
-list_block-requires c = ask_table c.requires.block_asked c.walk_record.ensures c.in-To.is (list_room c.requires.target_ready)
+list_block-requires c = ask_table c.requires.block_asked c.walk_record.ensures c.in-Some.is (list_room c.requires.target_ready)
 
 pub returns-then-not-list_block : goal.returns-then-not-list_block
-returns-then-not-list_block c = block_over c.requires.block_asked c.requires.target_ready c.left_out.ensures c.if-left_out.false c.list_block.ensures c.if-not-list_block.true-raw
+returns-then-not-list_block c = block_over c.requires.block_asked c.requires.target_ready c.left_out.ensures c.if-left_out.false c.list_block.ensures c.if-not-list_block.true
 
 pub merge_spare-requires : goal.merge_spare-requires
-merge_spare-requires c = let told = block_asks c.requires.block_asked c.requires.target_ready c.left_out.ensures c.if-left_out.false c.list_block.ensures c.if-not-list_block.false-raw in record { target_ready = told.0; ready = told.1 }
+merge_spare-requires c = let told = block_asks c.requires.block_asked c.requires.target_ready c.left_out.ensures c.if-left_out.false c.list_block.ensures c.if-not-list_block.false in record { target_ready = told.0; ready = told.1 }
 
 pub returns : goal.returns
-returns c = block_merged c.requires.block_asked c.requires.target_ready c.left_out.ensures c.if-left_out.false c.list_block.ensures c.if-not-list_block.false-raw c.merge_spare.ensures
+returns c = block_merged c.requires.block_asked c.requires.target_ready c.left_out.ensures c.if-left_out.false c.list_block.ensures c.if-not-list_block.false c.merge_spare.ensures

@@ -7,8 +7,8 @@ use Rattle.entries.proofs.merging.put_small.Goals as goal
 pub row_below-requires : goal.row_below-requires
 row_below-requires c = search (rules, has_front)
 
-pub returns-then-not-row_below : goal.returns-then-not-row_below
-returns-then-not-row_below c = too_large c.requires c.row_below.ensures c.if-not-row_below.true-raw
+pub returns-else-row_below : goal.returns-else-row_below
+returns-else-row_below c = rw c.if-row_below.false (too_large c.requires c.row_below.ensures c.if-row_below.false)
 
-pub returns : goal.returns
-returns c = small_put c.requires c.row_below.ensures c.if-not-row_below.false-raw c.put_row.ensures
+pub returns-then-row_below : goal.returns-then-row_below
+returns-then-row_below c = small_put c.requires c.row_below.ensures c.if-row_below.true c.put_row.ensures

@@ -1,17 +1,11 @@
 -- `move_entry`: at each turn the first k of n numbers are sums, and small.
 use native.Mathlib.Omega.{arith}
 use borrow.Author.Rules.{rules}
-use Rattle.entries.proofs.Placing.{place_start, since_copied, number_inside, number_low, target_inside, place_sum, place_stop, place_turn, place_done}
+use Rattle.entries.proofs.Placing.{place_start, since_copied, number_inside, number_low, place_sum, place_stop, place_turn, place_done}
 use Rattle.entries.proofs.standing.move_entry.Goals as goal
-
-pub copy_row-requires : goal.copy_row-requires
-copy_row-requires c = (c.requires.row.room, c.requires.room)
 
 pub loop-k-init : goal.loop-k-init
 loop-k-init c = place_start c.requires c.copy_row.ensures (search rules)
-
-pub overflow_add-p : goal.overflow_add-p
-overflow_add-p c = omega (arith, number_inside c.loop-k.invariant c.loop-k-test.true)
 
 pub low-requires : goal.low-requires
 low-requires c = let g = c.loop-k.invariant in record {
@@ -24,12 +18,6 @@ overflow_add-number c = omega (arith, place_sum c.loop-k.invariant c.loop-k-test
 
 pub returns-then-number-gt-COMPONENT_LIMIT : goal.returns-then-number-gt-COMPONENT_LIMIT
 returns-then-number-gt-COMPONENT_LIMIT c = since_copied c.requires c.copy_row.ensures (place_stop c.loop-k.invariant c.loop-k-test.true c.low.ensures c.if-number-gt-COMPONENT_LIMIT.true)
-
-pub overflow_add-to : goal.overflow_add-to
-overflow_add-to c = omega (arith, target_inside c.loop-k.invariant c.loop-k-test.true)
-
-pub store-requires : goal.store-requires
-store-requires c = (target_inside c.loop-k.invariant c.loop-k-test.true, omega (arith, c.if-number-gt-COMPONENT_LIMIT.false))
 
 pub loop-k-preserved : goal.loop-k-preserved
 loop-k-preserved c = place_turn c.loop-k.invariant c.loop-k-test.true c.low.ensures c.if-number-gt-COMPONENT_LIMIT.false c.store.ensures

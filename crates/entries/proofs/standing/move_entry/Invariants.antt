@@ -1,10 +1,6 @@
 -- `move_entry`: at each turn the first k of n numbers are sums, and small.
-use Prim.Native.Nat.{◌-◌}
 use Rattle.entries.proofs.Placing.{Placing}
 use Rattle.entries.proofs.standing.move_entry.Given as goal
 
 abbrev pub invariant-loop-k : goal.invariant-loop-k
 invariant-loop-k l = Placing l.p l.from l.start l.n l.w l.to l.k l.initial.window l.window
-
-abbrev pub decreases-loop-k : goal.decreases-loop-k
-decreases-loop-k l = l.n - l.k

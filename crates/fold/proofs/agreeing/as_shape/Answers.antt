@@ -1,5 +1,4 @@
 -- `as_shape`: number by number.
-use borrow.Author.Rules.{rules}
 use Rattle.fold.proofs.Agreed.{shape_is}
 use borrow.Author.Rules.{rules}
 use Rattle.fold.proofs.agreeing.as_shape.Goals as goal

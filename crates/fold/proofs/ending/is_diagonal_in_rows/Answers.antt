@@ -9,16 +9,16 @@ pub alike-requires : goal.alike-requires
 alike-requires c = extents_there c.requires.0 c.requires.1 c.get-rank.ensures.0
 
 pub returns-then-not-alike : goal.returns-then-not-alike
-returns-then-not-alike c = extents_differ c.requires.0 c.requires.1 c.get-rank.ensures.0 c.if-rank-eq1.false c.alike.ensures c.if-not-alike.true-raw
+returns-then-not-alike c = extents_differ c.requires.0 c.requires.1 c.get-rank.ensures.0 c.if-rank-eq1.false c.alike.ensures c.if-not-alike.true
 
 pub returns-then-count-get : goal.returns-then-count-get
-returns-then-count-get c = count_differs c.requires.0 c.requires.1 c.get-rank.ensures.0 c.if-rank-eq1.false c.alike.ensures c.if-not-alike.false-raw c.get-count.ensures.0 c.get.ensures.0 c.if-count-get.true
+returns-then-count-get c = count_differs c.requires.0 c.requires.1 c.get-rank.ensures.0 c.if-rank-eq1.false c.alike.ensures c.if-not-alike.false c.get-count.ensures.0 c.get.ensures.0 c.if-count-get.true
 
 pub overflow_sub-rank : goal.overflow_sub-rank
-overflow_sub-rank c = dense_under c.requires.0 c.requires.1 c.get-rank.ensures.0 c.if-rank-eq1.false c.alike.ensures c.if-not-alike.false-raw c.get-count.ensures.0 c.get.ensures.0 c.if-count-get.false c.get-2.ensures.0
+overflow_sub-rank c = dense_under c.requires.0 c.requires.1 c.get-rank.ensures.0 c.if-rank-eq1.false c.alike.ensures c.if-not-alike.false c.get-count.ensures.0 c.get.ensures.0 c.if-count-get.false c.get-2.ensures.0
 
 pub rows_alike-requires : goal.rows_alike-requires
-rows_alike-requires c = rows_there_in c.requires.0 c.requires.1 c.get-rank.ensures.0 c.if-rank-eq1.false c.alike.ensures c.if-not-alike.false-raw c.get-count.ensures.0 c.get.ensures.0 c.if-count-get.false c.get-2.ensures.0
+rows_alike-requires c = rows_there_in c.requires.0 c.requires.1 c.get-rank.ensures.0 c.if-rank-eq1.false c.alike.ensures c.if-not-alike.false c.get-count.ensures.0 c.get.ensures.0 c.if-count-get.false c.get-2.ensures.0
 
 pub returns : goal.returns
-returns c = rows_decide c.requires.0 c.requires.1 c.get-rank.ensures.0 c.if-rank-eq1.false c.alike.ensures c.if-not-alike.false-raw c.get-count.ensures.0 c.get.ensures.0 c.if-count-get.false c.get-2.ensures.0 c.rows_alike.ensures
+returns c = rows_decide c.requires.0 c.requires.1 c.get-rank.ensures.0 c.if-rank-eq1.false c.alike.ensures c.if-not-alike.false c.get-count.ensures.0 c.get.ensures.0 c.if-count-get.false c.get-2.ensures.0 c.rows_alike.ensures

@@ -1,12 +1,9 @@
 -- `carry_left`: the head, the rows, the states and the inputs are moved one after the other.
-use Rattle.fold.proofs.Carrying.{width_fits, ask_head, ask_rows, ask_states, ask_inputs, layout_carried}
+use Rattle.fold.proofs.Carrying.{width_fits, ask_rows, ask_states, ask_inputs, layout_carried}
 use Rattle.fold.proofs.folding.carry_left.Goals as goal
 
 pub overflow_sub-w : goal.overflow_sub-w
 overflow_sub-w c = width_fits c.requires c.get-rank.ensures.0 c.get.ensures.0
-
-pub move_part-requires : goal.move_part-requires
-move_part-requires c = let told = ask_head c.requires c.get-rank.ensures.0 c.get.ensures.0 in record { n_in_bounds = told.0; fact = told.1 }
 
 pub carry_table-requires : goal.carry_table-requires
 carry_table-requires c = ask_rows c.requires c.get-rank.ensures.0 c.get.ensures.0 c.move_part.ensures

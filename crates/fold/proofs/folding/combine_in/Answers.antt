@@ -1,4 +1,5 @@
 -- `combine_in`: by the rule.
+use Rattle.std.proofs.Common.{inl, inr}
 use Rattle.intersecting.proofs.Intersected.{rising}
 use Rattle.fold.proofs.Steps.{combined_as, unites, multiplies, divides}
 use Rattle.fold.proofs.folding.combine_in.Goals as goal
@@ -13,7 +14,8 @@ pub returns-in-Unite : goal.returns-in-Unite
 returns-in-Unite c = combined_as _ (unites _ _ c.in-Unite.is) c.union_in.ensures
 
 pub returns-in-Multiply : goal.returns-in-Multiply
-returns-in-Multiply c = combined_as _ (multiplies _ _ c.in-Multiply.is) c.intersect_in.ensures
-
-pub returns-in-Divide : goal.returns-in-Divide
-returns-in-Divide c = combined_as _ (divides _ _ c.in-Divide.is) c.intersect_in-in-Divide.ensures
+returns-in-Multiply c =
+    elim c.in-Multiply.is [
+      | inl e ↦ combined_as _ (multiplies _ _ e) c.intersect_in.ensures
+      | inr e ↦ combined_as _ (divides _ _ e) c.intersect_in.ensures
+    ]

@@ -4,7 +4,4 @@ use Rattle.fold.proofs.Steps.{FoldedTo}
 use Rattle.fold.proofs.folding.fold_all.Given as goal
 
 abbrev pub invariant-loop-k : goal.invariant-loop-k
-invariant-loop-k l = FoldedTo l.mode l.shape l.rule l.n l.places l.layouts (length l.initial.window) l.first l.k l.window
-
-abbrev pub decreases-loop-k : goal.decreases-loop-k
-decreases-loop-k l = l.k
+invariant-loop-k l = FoldedTo l.mode l.shape l.rule l.places.count l.places.at l.layouts (length l.initial.window) l.first l.k l.window

@@ -1,14 +1,6 @@
 -- `fold_onto`: the part that was lent came back, and the fold goes on.
-use native.Mathlib.Omega.{arith}
-use lib.ListN.{length-take, length-drop}
-use Rattle.fold.proofs.Steps.{lent_behind, window_ordered, onto_folded}
+use Rattle.fold.proofs.Steps.{window_ordered, onto_folded}
 use Rattle.fold.proofs.folding.fold_onto.Goals as goal
-
-pub bring-requires : goal.bring-requires
-bring-requires c = record {
-  bring_asked = lent_behind c.args.layouts.now c.args.at c.requires.at_in_bounds.1;
-  part_size_in_bounds = simp (length-take, length-drop) (omega (arith, c.requires.left_ready.room));
-}
 
 pub fold_next-requires : goal.fold_next-requires
 fold_next-requires c = window_ordered c.args.mode c.args.shape c.args.layouts.now c.args.at c.args.window.now c.requires.left_ready.room c.bring.ensures c.requires.left_ready c.window-1.given.0

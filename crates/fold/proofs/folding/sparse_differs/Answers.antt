@@ -1,12 +1,11 @@
--- `sparse_differs`: by the kinds, then by comparison.
-use Rattle.fold.proofs.Comparing.{left_not_sparse, right_dense, right_not_dense}
+-- `sparse_differs`: a right layout that is not dense is compared.
+use Rattle.rules.proofs.Same.{true_not_false}
+use Rattle.fold.proofs.Comparing.{divides_told}
 use Rattle.fold.proofs.folding.sparse_differs.Goals as goal
+use Rattle.fold.proofs.folding.sparse_differs.Goals.{in-Dense, in_default-matches}
 
-pub returns-then-get-ne2 : goal.returns-then-get-ne2
-returns-then-get-ne2 c = left_not_sparse _ c.get.ensures.0 c.if-get-ne2.true
-
-pub returns-then-get-eq0 : goal.returns-then-get-eq0
-returns-then-get-eq0 c = right_dense _ c.get.ensures.0 c.if-get-ne2.false c.get-2.ensures.0 c.if-get-eq0.true
-
-pub returns : goal.returns
-returns c = right_not_dense _ c.get.ensures.0 c.if-get-ne2.false c.get-2.ensures.0 c.if-get-eq0.false c.eq_nonzeros.ensures
+pub returns-else-matches : goal.returns-else-matches
+returns-else-matches c = elim c.match-matches.branch [
+  | in-Dense w ↦ absurd (true_not_false w.matches-is c.if-matches.false)
+  | in_default-matches w ↦ divides_told _ c.kind_at.ensures c.requires c.in-Sparse.is c.kind_at-in-Sparse.ensures w.in_default-matches.not-Dense c.eq_nonzeros.ensures
+]

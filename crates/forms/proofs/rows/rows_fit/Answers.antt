@@ -1,14 +1,7 @@
 -- `rows_fit`: natural, inside the shape and all different, in turn.
-use borrow.Author.Rules.{rules}
 use Rattle.shapes.proofs.Judging.{shape_extents}
-use Rattle.forms.proofs.Fitting.{rows_there_lem, rows_within, fits}
+use Rattle.forms.proofs.Fitting.{rows_there_lem, rows_within}
 use Rattle.forms.proofs.rows.rows_fit.Goals as goal
-
-pub returns-then-w-eq0 : goal.returns-then-w-eq0
-returns-then-w-eq0 c = search (rules, fits)
-
-pub returns-then-not-all_natural : goal.returns-then-not-all_natural
-returns-then-not-all_natural c = search (rules, fits)
 
 pub rows_below-requires : goal.rows_below-requires
 rows_below-requires c = let given = c.requires in
@@ -17,9 +10,6 @@ rows_below-requires c = let given = c.requires in
       w_in_bounds = (shape_extents _ given.judged wide).room;
     }
 
-pub returns-then-not-rows_below : goal.returns-then-not-rows_below
-returns-then-not-rows_below c = search (rules, fits)
-
 pub all_differ-requires : goal.all_differ-requires
 all_differ-requires c = let given = c.requires in
     let wide = c.rank-w.ensures.0 in
@@ -27,6 +17,3 @@ all_differ-requires c = let given = c.requires in
     let inside = c.rows_below.ensures in
     let none = c.if-not-all_natural.false-raw in
     rows_within _ _ _ given.numbers_len wide told.is c.if-w-eq0.false none given.judged inside c.if-not-rows_below.false-raw (rows_there_lem _ _ _ given.numbers_len wide told.low none)
-
-pub returns : goal.returns
-returns c = search (rules, fits)

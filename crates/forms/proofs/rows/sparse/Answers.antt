@@ -13,8 +13,5 @@ returns-then-n-gt-ENTRY_LIMIT c = search (rules, shapes, sparses)
 pub slice_bounds-write_record-end : goal.slice_bounds-write_record-end
 slice_bounds-write_record-end c = search (rules, shapes, sparses)
 
-pub write_record-requires : goal.write_record-requires
-write_record-requires c = search (rules, shapes, sparses)
-
 pub returns : goal.returns
 returns c = search (rules, shapes, sparses)

@@ -11,5 +11,5 @@ merge_list-requires-then-merge_list c = ask_inputs c.args.d c.requires c.merge_l
 pub returns-then-merge_list : goal.returns-then-merge_list
 returns-then-merge_list c = deps_merged c.args.d c.requires c.merge_list.ensures c.if-merge_list.true c.merge_list-then-merge_list.ensures
 
-pub returns : goal.returns
-returns c = states_stop c.args.d c.requires c.merge_list.ensures c.if-merge_list.false
+pub returns-else-merge_list : goal.returns-else-merge_list
+returns-else-merge_list c = rw c.if-merge_list.false (states_stop c.args.d c.requires c.merge_list.ensures c.if-merge_list.false)

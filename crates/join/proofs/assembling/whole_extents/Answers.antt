@@ -3,18 +3,6 @@ use Rattle.cells.proofs.Signed.{held_pos}
 use Rattle.join.proofs.Joins.{extents_seen}
 use Rattle.join.proofs.assembling.whole_extents.Goals as goal
 
-pub whole-requires : goal.whole-requires
-whole-requires c = c.requires.0 0
-
-pub whole-requires-2 : goal.whole-requires-2
-whole-requires-2 c = c.requires.0 1
-
-pub whole-requires-3 : goal.whole-requires-3
-whole-requires-3 c = c.requires.0 2
-
-pub whole-requires-4 : goal.whole-requires-4
-whole-requires-4 c = c.requires.0 3
-
 pub returns : goal.returns
 returns c = let e = c.requires in
     extents_seen _ e.1 (held_pos _ (e.0 0) c.whole.ensures) (held_pos _ (e.0 1) c.whole-2.ensures) (held_pos _ (e.0 2) c.whole-3.ensures) (held_pos _ (e.0 3) c.whole-4.ensures)

@@ -9,13 +9,13 @@ use Rattle.shapes.proofs.Reading.{handed_over, as_natural, sign_natural, sign_ne
 use Rattle.list_calls.proofs.Concatenations.{rank_wrong, blocks_wrong}
 use Rattle.list_calls.proofs.joining.wrong_blocks.Goals as goal
 
-pub returns-in-Natural : goal.returns-in-Natural
-returns-in-Natural c =
+pub returns-in-Some : goal.returns-in-Some
+returns-in-Some c =
     let sign : c.sign_of.result ≡ sign_of c.args.rank = handed_over _ c.ranges.rank c.sign_of.ensures.is in
-    blocks_wrong c.args.rank _ _ _ _ (sign_natural _ sign c.in-Natural.is) (as_natural _ sign c.in-Natural.is) c.all_pass.ensures
+    blocks_wrong c.args.rank _ _ _ _ (sign_natural _ sign c.in-Some.is) (as_natural _ sign c.in-Some.is) c.all_pass.ensures
 
-pub returns-in-Negative : goal.returns-in-Negative
-returns-in-Negative c =
+pub returns-in-None : goal.returns-in-None
+returns-in-None c =
     let sign : c.sign_of.result ≡ sign_of c.args.rank = handed_over _ c.ranges.rank c.sign_of.ensures.is in
     let a = c.args in
-    rank_wrong a.rank (all good_block (blocks_at (natural a.rank) a.n a.places a.list.now)) (sign_negative _ sign c.in-Negative.is)
+    rank_wrong a.rank (all good_block (blocks_at (natural a.rank) a.places.now.count a.places.now.at a.list.now)) (sign_negative _ sign c.in-None.is)

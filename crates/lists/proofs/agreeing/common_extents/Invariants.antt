@@ -6,7 +6,7 @@ use Rattle.lists.proofs.Entering.{Filled}
 use Rattle.lists.proofs.agreeing.common_extents.Given as goal
 
 abbrev pub invariant-loop-axis : goal.invariant-loop-axis
-invariant-loop-axis l = Filled (λ a. common_extent a (shapes_at l.n l.places l.s)) l.axes l.axis l.extents
+invariant-loop-axis l = Filled (λ a. common_extent a (shapes_at l.places.count l.places.at l.s)) l.axes l.axis l.extents
 
 abbrev pub decreases-loop-axis : goal.decreases-loop-axis
 decreases-loop-axis l = l.axes - l.axis

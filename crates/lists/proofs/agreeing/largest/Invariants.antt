@@ -6,7 +6,7 @@ use Rattle.lists.proofs.Common.{MostTo}
 use Rattle.lists.proofs.agreeing.largest.Given as goal
 
 abbrev pub invariant-loop-i : goal.invariant-loop-i
-invariant-loop-i l = MostTo (measure l.what) l.n l.i (standing l.n l.places l.s) l.most
+invariant-loop-i l = MostTo (measure l.what) l.places.count l.i (standing l.places.count l.places.at l.s) l.most
 
 abbrev pub decreases-loop-i : goal.decreases-loop-i
-decreases-loop-i l = l.n - l.i
+decreases-loop-i l = l.places.count - l.i

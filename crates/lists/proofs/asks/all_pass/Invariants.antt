@@ -6,7 +6,7 @@ use Rattle.lists.specs.Asked.{asked}
 use Rattle.lists.proofs.asks.all_pass.Given as goal
 
 abbrev pub invariant-loop-i : goal.invariant-loop-i
-invariant-loop-i l = Passed (asked l.ask) l.n l.i (standing l.n l.places l.s)
+invariant-loop-i l = Passed (asked l.ask) l.places.count l.i (standing l.places.count l.places.at l.s)
 
 abbrev pub decreases-loop-i : goal.decreases-loop-i
-decreases-loop-i l = l.n - l.i
+decreases-loop-i l = l.places.count - l.i

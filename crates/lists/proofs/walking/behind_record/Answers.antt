@@ -6,8 +6,8 @@ use Rattle.lists.proofs.walking.behind_record.Goals as goal
 pub overflow_add-result : goal.overflow_add-result
 overflow_add-result c = search (rules, record_laws)
 
-pub returns-in-To : goal.returns-in-To
-returns-in-To c = search (rules, record_laws)
+pub returns-in-Some : goal.returns-in-Some
+returns-in-Some c = search (rules, record_laws)
 
-pub returns-in-Broken : goal.returns-in-Broken
-returns-in-Broken c = search (rules, record_laws)
+pub returns-in-None : goal.returns-in-None
+returns-in-None c = search (rules, record_laws)

@@ -6,8 +6,8 @@ use Rattle.lists.proofs.walking.behind_shape.Goals as goal
 pub overflow_add-result : goal.overflow_add-result
 overflow_add-result c = search (rules, shape_laws)
 
-pub returns-in-Whole : goal.returns-in-Whole
-returns-in-Whole c = search (rules, shape_laws)
+pub returns-in-Some : goal.returns-in-Some
+returns-in-Some c = search (rules, shape_laws)
 
-pub returns-in-Cut : goal.returns-in-Cut
-returns-in-Cut c = search (rules, shape_laws)
+pub returns-in-None : goal.returns-in-None
+returns-in-None c = search (rules, shape_laws)

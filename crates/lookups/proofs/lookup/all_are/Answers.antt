@@ -1,25 +1,17 @@
--- `all_are`: the components before k are v.
-use borrow.Author.Rules.{rules}
-use Rattle.lookups.proofs.Reading.{are_turn, sames}
+-- `all_are`: the test of the closure is that of the clause, number by number.
+use Rattle.std.proofs.Common.{◌∙◌, refl, rules, arith, length, get_or, eqb, pos}
+use Rattle.std.proofs.lemmas.Iterator.{YieldsList-from_range}
+use Rattle.std.proofs.lemmas.Iterator.Search.{all_from_yields_List}
+use borrow.Author.Tests.{tests}
+use Rattle.rules.specs.Record.{natural}
+use Rattle.lookups.proofs.Reading.{are_all}
 use Rattle.lookups.proofs.lookup.all_are.Goals as goal
 
-pub loop-k-init : goal.loop-k-init
-loop-k-init c = search (rules, sames)
-
-pub natural_at-requires : goal.natural_at-requires
-natural_at-requires c = search (rules, sames)
-
-pub returns-then-natural_at-v : goal.returns-then-natural_at-v
-returns-then-natural_at-v c = search (rules, sames)
-
-pub overflow_add-k : goal.overflow_add-k
-overflow_add-k c = search (rules, sames)
-
-pub loop-k-smaller : goal.loop-k-smaller
-loop-k-smaller c = search (rules, sames)
-
-pub loop-k-preserved : goal.loop-k-preserved
-loop-k-preserved c = are_turn c.loop-k.invariant c.loop-k-test.true c.natural_at.ensures.0 c.if-natural_at-v.false
-
 pub returns : goal.returns
-returns c = search (rules, sames)
+returns c =
+    let index = c.args.index.now in
+    let v = c.args.v in
+    let n = length index in
+    let chain = YieldsList-from_range 0 n n refl (omega arith) in
+    all_from_yields_List (λ k. eqb v (natural (get_or index k (pos 0)))) _ _ c.all.result c.all.ensures.ran chain (λ x b q k. search (rules, tests))
+    ∙ are_all index v 0 n (omega arith)

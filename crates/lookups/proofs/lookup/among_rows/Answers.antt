@@ -1,10 +1,6 @@
--- `among_rows`: by the spot.
-use Rattle.lookups.proofs.Placing.{rows}
-use borrow.Author.Rules.{rules}
+-- `among_rows`: what the search answers.
+use Rattle.lookups.proofs.Placing.{row_told}
 use Rattle.lookups.proofs.lookup.among_rows.Goals as goal
 
-pub returns-in-At : goal.returns-in-At
-returns-in-At c = search (rules, rows)
-
-pub returns-in-Before : goal.returns-in-Before
-returns-in-Before c = search (rules, rows)
+pub returns : goal.returns
+returns c = row_told _ _ c.requires.increasing _ _ c.search.ensures c.ok.ensures.value

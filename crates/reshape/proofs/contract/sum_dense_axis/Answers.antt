@@ -3,12 +3,6 @@ use native.Mathlib.Omega.{arith}
 use Rattle.reshape.proofs.Contracting.{ask_dense_axis, dense_axis_summed}
 use Rattle.reshape.proofs.contract.sum_dense_axis.Goals as goal
 
-pub keep_rows-requires : goal.keep_rows-requires
-keep_rows-requires c = record {
-  sound_record = c.requires.sum_asked.sound;
-  part_size_in_bounds = c.requires.sum_asked.room;
-}
-
 pub write_head-requires : goal.write_head-requires
 write_head-requires c = ask_dense_axis c.requires.sum_asked c.get-kind.ensures.0 c.keep_rows.ensures _ (omega arith)
 

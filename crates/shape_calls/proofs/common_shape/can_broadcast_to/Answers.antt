@@ -27,10 +27,6 @@ stretches-requires c = record {
   judged_2 = shape_judged _ c.over_shape-2.ensures c.if-over_shape-2.false c.good_shape-2.ensures c.if-not-good_shape-2.false-raw;
 }
 
-pub returns-then-stretches : goal.returns-then-stretches
-unfolding can_broadcast_to_call number_of
-returns-then-stretches c = search judged
-
 pub returns : goal.returns
 unfolding can_broadcast_to_call number_of
 returns c = search judged

@@ -3,23 +3,8 @@ use borrow.Author.Rules.{rules}
 use Rattle.shapes.proofs.Passing.{zero_laws}
 use Rattle.shapes.proofs.extents.any_zero.Goals as goal
 
-pub rank-axes-requires : goal.rank-axes-requires
-rank-axes-requires c = search (rules, zero_laws)
-
-pub loop-axis-init : goal.loop-axis-init
-loop-axis-init c = search (rules, zero_laws)
-
-pub extent-requires : goal.extent-requires
-extent-requires c = search (rules, zero_laws)
-
 pub returns-then-extent-eq0 : goal.returns-then-extent-eq0
 returns-then-extent-eq0 c = search (rules, zero_laws)
-
-pub overflow_add-axis : goal.overflow_add-axis
-overflow_add-axis c = search (rules, zero_laws)
-
-pub loop-axis-smaller : goal.loop-axis-smaller
-loop-axis-smaller c = search (rules, zero_laws)
 
 pub loop-axis-preserved : goal.loop-axis-preserved
 loop-axis-preserved c = search (rules, zero_laws)

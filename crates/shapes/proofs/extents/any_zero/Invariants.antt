@@ -1,11 +1,7 @@
 -- `any_zero`: none of the extents before the axis is zero.
-use Prim.Native.Nat.{◌-◌}
 use Rattle.rules.specs.Record.{shape_in}
 use Rattle.shapes.proofs.Passing.{NoZero}
 use Rattle.shapes.proofs.extents.any_zero.Given as goal
 
 abbrev pub invariant-loop-axis : goal.invariant-loop-axis
 invariant-loop-axis l = NoZero l.axes l.axis (shape_in l.s)
-
-abbrev pub decreases-loop-axis : goal.decreases-loop-axis
-decreases-loop-axis l = l.axes - l.axis

@@ -5,6 +5,3 @@ use Rattle.shapes.proofs.extents.extent.Goals as goal
 
 pub returns-then-axis-rank : goal.returns-then-axis-rank
 returns-then-axis-rank c = search (rules, extent_laws)
-
-pub returns : goal.returns
-returns c = search (rules, extent_laws)

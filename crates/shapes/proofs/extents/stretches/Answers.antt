@@ -4,35 +4,14 @@ use borrow.Author.Tests.{not-false}
 use Rattle.shapes.proofs.Stretching.{laws, stretch_turn}
 use Rattle.shapes.proofs.extents.stretches.Goals as goal
 
-pub rank-axes-requires : goal.rank-axes-requires
-rank-axes-requires c = search (rules, laws)
-
-pub rank-requires : goal.rank-requires
-rank-requires c = search (rules, laws)
-
 pub returns-then-axes-rank : goal.returns-then-axes-rank
 returns-then-axes-rank c = search (rules, laws)
 
 pub loop-axis-init : goal.loop-axis-init
 loop-axis-init c = search (rules, laws)
 
-pub extent-requires : goal.extent-requires
-extent-requires c = search (rules, laws)
-
-pub extent-requires-in-loop-axis : goal.extent-requires-in-loop-axis
-extent-requires-in-loop-axis c = search (rules, laws)
-
-pub axis_stretches-requires : goal.axis_stretches-requires
-axis_stretches-requires c = search (rules, laws)
-
 pub returns-then-not-axis_stretches : goal.returns-then-not-axis_stretches
 returns-then-not-axis_stretches c = search (rules, laws)
-
-pub overflow_add-axis : goal.overflow_add-axis
-overflow_add-axis c = search (rules, laws)
-
-pub loop-axis-smaller : goal.loop-axis-smaller
-loop-axis-smaller c = search (rules, laws)
 
 pub loop-axis-preserved : goal.loop-axis-preserved
 loop-axis-preserved c = let extents = c in

@@ -4,21 +4,9 @@ use Rattle.rules.specs.Arguments.{good_components}
 use Rattle.tables.proofs.Passing.{passing}
 use Rattle.shapes.proofs.numbers.good_components.Goals as goal
 
-pub loop-k-init : goal.loop-k-init
-loop-k-init c = search (rules, passing)
-
-pub up_to-requires : goal.up_to-requires
-up_to-requires c = search (rules, passing)
-
 pub returns-then-not-up_to : goal.returns-then-not-up_to
 unfolding good_components
 returns-then-not-up_to c = search (rules, passing)
-
-pub overflow_add-k : goal.overflow_add-k
-overflow_add-k c = search (rules, passing)
-
-pub loop-k-smaller : goal.loop-k-smaller
-loop-k-smaller c = search (rules, passing)
 
 pub loop-k-preserved : goal.loop-k-preserved
 loop-k-preserved c = search (rules, passing)

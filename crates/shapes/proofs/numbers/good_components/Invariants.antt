@@ -1,5 +1,4 @@
 -- `good_components`: the numbers before k passed.
-use Prim.Native.Nat.{◌-◌}
 use lib.ListN.{length}
 use Rattle.rules.specs.Arguments.{up_to}
 use Rattle.rules.specs.Limits.{component_limit}
@@ -8,6 +7,3 @@ use Rattle.shapes.proofs.numbers.good_components.Given as goal
 
 abbrev pub invariant-loop-k : goal.invariant-loop-k
 invariant-loop-k l = Passed (up_to component_limit) (length l.s) l.k l.s
-
-abbrev pub decreases-loop-k : goal.decreases-loop-k
-decreases-loop-k l = length l.s - l.k

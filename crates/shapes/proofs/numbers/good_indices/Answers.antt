@@ -6,9 +6,6 @@ use Rattle.shapes.proofs.numbers.good_indices.Goals as goal
 pub returns-then-n-gt-RESULT_SIZE : goal.returns-then-n-gt-RESULT_SIZE
 returns-then-n-gt-RESULT_SIZE c = search (rules, indices)
 
-pub overflow_mul-n : goal.overflow_mul-n
-overflow_mul-n c = search (rules, indices)
-
 pub returns-then-s-n : goal.returns-then-s-n
 returns-then-s-n c = search (rules, indices)
 

@@ -9,5 +9,5 @@ returns-then-n-le16 c = search (rules, reading)
 pub returns-else-n-le16 : goal.returns-else-n-le16
 returns-else-n-le16 c = search (rules, reading)
 
-pub returns-in-Negative : goal.returns-in-Negative
-returns-in-Negative c = search (rules, reading)
+pub returns-in-None : goal.returns-in-None
+returns-in-None c = search (rules, reading)

@@ -6,8 +6,8 @@ use Rattle.shapes.proofs.numbers.natural_at.Goals as goal
 pub returns-then-s-at : goal.returns-then-s-at
 returns-then-s-at c = search (rules, reading)
 
-pub returns-in-Natural : goal.returns-in-Natural
-returns-in-Natural c = search (rules, reading)
+pub returns-in-Some : goal.returns-in-Some
+returns-in-Some c = search (rules, reading)
 
-pub returns-in-Negative : goal.returns-in-Negative
-returns-in-Negative c = search (rules, reading)
+pub returns-in-None : goal.returns-in-None
+returns-in-None c = search (rules, reading)

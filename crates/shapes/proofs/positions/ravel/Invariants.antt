@@ -1,11 +1,6 @@
 -- `ravel`: the number of the components before k.
-use Prim.Native.Nat.{◌-◌}
-use lib.ListN.{length}
 use Rattle.shapes.proofs.Locating.{Raveled}
 use Rattle.shapes.proofs.positions.ravel.Given as goal
 
 abbrev pub invariant-loop-k : goal.invariant-loop-k
 invariant-loop-k l = Raveled l.index l.shape l.k l.number
-
-abbrev pub decreases-loop-k : goal.decreases-loop-k
-decreases-loop-k l = length l.index - l.k

@@ -1,10 +1,6 @@
 -- `added`: at each turn the first k numbers are sums.
-use Prim.Native.Nat.{◌-◌}
 use Rattle.stretch.proofs.Plus.{Adding}
 use Rattle.stretch.proofs.every.added.Given as goal
 
 abbrev pub invariant-loop-k : goal.invariant-loop-k
 invariant-loop-k l = Adding l.at l.w l.from l.initial.row l.k l.row
-
-abbrev pub decreases-loop-k : goal.decreases-loop-k
-decreases-loop-k l = l.w - l.k

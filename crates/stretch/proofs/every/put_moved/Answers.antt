@@ -1,6 +1,5 @@
 -- `put_moved`: at each turn the row plus the first indices is in the table, and the next index stands ready.
-use Rattle.stretch.proofs.Moves.{move_start, ask_sum, can_move, moved_row, ask_turn, move_turn, move_stop, move_done}
-use borrow.Author.Tests.{not-true, not-false}
+use Rattle.stretch.proofs.Moves.{move_start, ask_sum, can_move, moved_row, move_turn, move_stop}
 use borrow.Author.Rules.{rules}
 use Rattle.stretch.proofs.every.put_moved.Goals as goal
 
@@ -17,13 +16,7 @@ put_row-requires c = let g = c.loop-number.invariant in record {
 }
 
 pub returns-then-not-put_row : goal.returns-then-not-put_row
-returns-then-not-put_row c = move_stop c.loop-number.invariant c.loop-number-test.true c.added-row.result (search rules) c.added-row.ensures c.put_row.ensures (not-true c.put_row.result c.if-not-put_row.true-raw)
-
-pub turn-requires : goal.turn-requires
-turn-requires c = ask_turn c.loop-number.invariant c.loop-number-test.true
+returns-then-not-put_row c = move_stop c.loop-number.invariant c.loop-number-test.true c.added-row.result (search rules) c.added-row.ensures c.put_row.ensures c.if-not-put_row.true
 
 pub loop-number-preserved : goal.loop-number-preserved
-loop-number-preserved c = move_turn c.loop-number.invariant c.loop-number-test.true c.added-row.result (search rules) c.added-row.ensures c.put_row.ensures (not-false c.put_row.result c.if-not-put_row.false-raw) c.turn.ensures (search rules)
-
-pub returns : goal.returns
-returns c = move_done c.loop-number.invariant c.loop-number-test.false
+loop-number-preserved c = move_turn c.loop-number.invariant c.loop-number-test.true c.added-row.result (search rules) c.added-row.ensures c.put_row.ensures c.if-not-put_row.false c.turn.ensures (search rules)

@@ -1,5 +1,5 @@
 -- `turn`: at each turn the components from k on were the last ones, and are 0.
-use Rattle.stretch.proofs.Turning.{turn_start, ask_component, ask_extent, sum_small, turn_grown, turn_rolled, turn_done}
+use Rattle.stretch.proofs.Turning.{turn_start, ask_component, ask_extent, sum_small, turn_grown, turn_rolled}
 use native.Mathlib.Omega.{arith}
 use Rattle.stretch.proofs.every.turn.Goals as goal
 
@@ -21,11 +21,5 @@ store-requires c = ((ask_component c.loop-k.invariant c.loop-k-test.true).0, sum
 pub returns-then-number-low : goal.returns-then-number-low
 returns-then-number-low c = turn_grown c.loop-k.invariant c.loop-k-test.true c.low-number.ensures c.low.ensures c.if-number-low.true c.store.ensures
 
-pub store-requires-in-loop-k : goal.store-requires-in-loop-k
-store-requires-in-loop-k c = ((ask_component c.loop-k.invariant c.loop-k-test.true).0, omega arith)
-
 pub loop-k-preserved : goal.loop-k-preserved
 loop-k-preserved c = turn_rolled c.loop-k.invariant c.loop-k-test.true c.low-number.ensures c.low.ensures c.if-number-low.false c.store-in-loop-k.ensures
-
-pub returns : goal.returns
-returns c = turn_done c.loop-k.invariant c.loop-k-test.false

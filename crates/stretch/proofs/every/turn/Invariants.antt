@@ -4,6 +4,3 @@ use Rattle.stretch.proofs.every.turn.Given as goal
 
 abbrev pub invariant-loop-k : goal.invariant-loop-k
 invariant-loop-k l = Turning l.w l.extents l.k l.initial.index l.index
-
-abbrev pub decreases-loop-k : goal.decreases-loop-k
-decreases-loop-k l = l.k

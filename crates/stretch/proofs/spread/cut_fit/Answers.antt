@@ -3,23 +3,8 @@ use Rattle.stretch.proofs.StretchedAxes.{cutting, cut_stop}
 use borrow.Author.Rules.{rules}
 use Rattle.stretch.proofs.spread.cut_fit.Goals as goal
 
-pub loop-k-init : goal.loop-k-init
-loop-k-init c = search (rules, cutting)
-
-pub overflow_add-k : goal.overflow_add-k
-overflow_add-k c = search (rules, cutting)
-
-pub get-requires : goal.get-requires
-get-requires c = search (rules, cutting)
-
 pub returns-then-get-ne1 : goal.returns-then-get-ne1
 returns-then-get-ne1 c = cut_stop c.loop-k.invariant c.loop-k-test.true c.get.ensures.0 c.if-get-ne1.true
-
-pub overflow_add-k-in-loop-k : goal.overflow_add-k-in-loop-k
-overflow_add-k-in-loop-k c = search (rules, cutting)
-
-pub loop-k-smaller : goal.loop-k-smaller
-loop-k-smaller c = search (rules, cutting)
 
 pub loop-k-preserved : goal.loop-k-preserved
 loop-k-preserved c = search (rules, cutting)

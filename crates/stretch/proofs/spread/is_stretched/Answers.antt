@@ -4,10 +4,10 @@ use borrow.Author.Rules.{rules}
 use Rattle.stretch.proofs.spread.is_stretched.Goals as goal
 
 pub returns-then-old-axis : goal.returns-then-old-axis
-returns-then-old-axis c = search (rules, added_axis, wide_axis, narrow_axis)
+returns-then-old-axis c = search (rules, added_axis)
 
-pub returns-then-get-ne1 : goal.returns-then-get-ne1
-returns-then-get-ne1 c = search (rules, added_axis, wide_axis, narrow_axis)
+pub returns-then-get-eq1 : goal.returns-then-get-eq1
+returns-then-get-eq1 c = search (rules, narrow_axis)
 
-pub returns : goal.returns
-returns c = search (rules, added_axis, wide_axis, narrow_axis)
+pub returns-else-get-eq1 : goal.returns-else-get-eq1
+returns-else-get-eq1 c = search (rules, wide_axis)

@@ -1,9 +1,0 @@
--- `places`: at each turn k digits are counted.
-use Rattle.text.proofs.Spelling.{Counting}
-use Rattle.text.proofs.places.Given as goal
-
-abbrev pub invariant-loop-rest : goal.invariant-loop-rest
-invariant-loop-rest l = Counting l.n l.k l.rest
-
-abbrev pub decreases-loop-rest : goal.decreases-loop-rest
-decreases-loop-rest l = l.rest
