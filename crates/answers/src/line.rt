@@ -30,12 +30,13 @@ impl Line {
         self.held == Some(0)
     }
 
-    // One byte more; there is room for as many as are held.
-    pub fn push(&mut self, byte: u8) {
+    // More bytes; there is room for as many as are held.
+    pub fn extend(&mut self, piece: &[u8]) {
         self.held = match self.held {
-            Some(n) if n < BYTES => {
-                self.bytes[n] = byte;
-                Some(n + 1)
+            Some(n) if n <= BYTES && piece.len() <= BYTES - n => {
+                let end = n + piece.len();
+                self.bytes[n..end].copy_from_slice(piece);
+                Some(end)
             }
             _ => None,
         };

@@ -87,12 +87,14 @@ fn hear<W: io::Write>(
     line: &mut Line,
     buffers: &mut Buffers,
 ) -> io::Result<()> {
-    for byte in input {
-        if *byte == b'\n' {
-            output.write_all(buffers.answer(line))?;
-            line.clear();
-        } else {
-            line.push(*byte);
+    for piece in input.split_inclusive(|byte| *byte == b'\n') {
+        match piece.strip_suffix(b"\n") {
+            Some(end) => {
+                line.extend(end);
+                output.write_all(buffers.answer(line))?;
+                line.clear();
+            }
+            None => line.extend(piece),
         }
     }
     Ok(())

@@ -1,9 +1,8 @@
 // The text of an answer, piece by piece. What there is no room for is left out.
 #![tactic(auto)]
 
-ghost use Rattle.std.specs.Prelude.{◌≤◌};
+ghost use Rattle.std.specs.Prelude.{◌≡◌, ◌≤◌, length, decimal};
 
-use itoa::{Buffer, Integer};
 use rules::{Refusal, Tuple};
 use std::cmp::Ordering;
 
@@ -11,6 +10,19 @@ use std::cmp::Ordering;
 const ROOM: usize = 65536;
 
 const LONGEST: usize = 11;
+
+// How many digits a number has. Stays a `while`: how many turns it takes is what is asked.
+fn places(n: u64) -> usize
+    ensures { result ≡ length (decimal n) }
+{
+    let mut count = 1;
+    let mut rest = n;
+    while 10 <= rest {
+        rest /= 10;
+        count += 1;
+    }
+    count
+}
 
 // The text of an answer, and how many bytes it has.
 #[derive(Drop)]
@@ -48,25 +60,56 @@ impl Reply {
         }
     }
 
-    // A space and a number are written, the number only if there is room for the longest one.
-    fn digits<I: Integer>(&mut self, n: I) {
-        self.word(b" ");
-        if LONGEST <= ROOM - self.size {
-            self.word(Buffer::new().format(n).as_bytes());
+    // One byte is written.
+    fn push(&mut self, byte: u8) {
+        let at = self.size;
+        if at < ROOM {
+            self.bytes[at] = byte;
+            self.size = at + 1;
+        }
+    }
+
+    // The digits of a number are written.
+    fn digits(&mut self, n: u64) {
+        let count = places(n);
+        if count <= ROOM - self.size {
+            self.size += count;
+            itoa::write_digits(n, &mut self.bytes, self.size);
+        }
+    }
+
+    // A space and a natural number are written.
+    fn natural(&mut self, n: usize) {
+        self.push(b' ');
+        self.digits(n as u64);
+    }
+
+    // A space and a number are written, the number only if there is room for the longest one. One digit goes straight to its place.
+    // Stays beside `natural`, since it is quicker: one function for both, over `itoa`'s buffer, takes 142 instructions for a digit, not 48.
+    fn integer(&mut self, z: i32) {
+        self.push(b' ');
+        if self.size <= ROOM - LONGEST {
+            if z < 0 {
+                self.push(b'-');
+            }
+            match z.unsigned_abs() {
+                n if n < 10 => self.push(b'0' + n as u8),
+                n => self.digits(u64::from(n)),
+            }
         }
     }
 
     // Numbers are written.
-    fn all_digits<I: Integer>(&mut self, numbers: &[I]) {
-        for n in numbers {
-            self.digits(*n);
+    fn integers(&mut self, numbers: &[i32]) {
+        for z in numbers {
+            self.integer(*z);
         }
     }
 
     // A refusal.
     fn refused(&mut self, why: Refusal) {
         self.word(b"refused");
-        self.digits(layout::number_of(why));
+        self.integer(layout::number_of(why));
     }
 
     // Yes or no.
@@ -104,7 +147,7 @@ impl Reply {
         match answer {
             Ok(n) => {
                 self.word(b"ok");
-                self.digits(n);
+                self.natural(n);
             }
             Err(why) => self.refused(why),
         }
@@ -115,7 +158,7 @@ impl Reply {
         match answer {
             Ok(Some(n)) => {
                 self.word(b"found");
-                self.digits(n);
+                self.natural(n);
             }
             Ok(None) => self.word(b"nothing"),
             Err(why) => self.refused(why),
@@ -128,7 +171,9 @@ impl Reply {
             Ok(tuple) => {
                 let numbers = tuple.numbers;
                 self.number(Ok(tuple.count));
-                self.all_digits(numbers.get(..tuple.count).unwrap_or(&[]));
+                for n in numbers.get(..tuple.count).unwrap_or(&[]) {
+                    self.natural(*n);
+                }
             }
             Err(why) => self.refused(why),
         }
@@ -137,8 +182,8 @@ impl Reply {
     // A part of a slice: its count and its numbers.
     pub fn part(&mut self, numbers: &[i32]) {
         self.word(b"part");
-        self.digits(numbers.len());
-        self.all_digits(numbers);
+        self.natural(numbers.len());
+        self.integers(numbers);
     }
 
     // A record that was written to the front of the result, or a refusal.
@@ -174,7 +219,7 @@ impl Reply {
         let Some(numbers) = res.get(..n) else {
             return self.unless(false);
         };
-        self.all_digits(numbers);
+        self.integers(numbers);
         self.unless(requests::unchanged(res, n));
     }
 

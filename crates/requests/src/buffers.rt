@@ -15,10 +15,7 @@ pub fn fill(s: &mut [i32]) {
 
 // Whether the pattern stands from a place on.
 pub fn unchanged(s: &[i32], from: usize) -> bool {
-    s.iter()
-        .enumerate()
-        .skip(from)
-        .all(|(i, z)| *z == pattern(i))
+    (from..s.len()).all(|i| s[i] == pattern(i))
 }
 
 // Whether the first n numbers are there and are zeros.
