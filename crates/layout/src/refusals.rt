@@ -4,7 +4,7 @@ ghost use Rattle.rules.specs.Refusals.{number_of};
 
 use rules::Refusal;
 
-// The number of a refusal. Stays a function, and no `From`: the README names it as public.
+// The number of a refusal. Stays a function, and no `From`: docs/CONTRACTS.md names it as public.
 pub fn number_of(reason: Refusal) -> i32
     ensures { result ≡ pos (number_of reason) }
 {
