@@ -84,8 +84,8 @@ impl Reply {
         self.digits(n as u64);
     }
 
-    // A space and a number are written, the number only if there is room for the longest one. One digit goes straight to its place.
-    // Stays beside `natural`, since it is quicker: one function for both, over `itoa`'s buffer, takes 142 instructions for a digit, not 48.
+    // A space and a number are written, the number only if there is room for the longest one. Stays beside `natural`, since it is
+    // quicker: one function for both, over `itoa`'s buffer, takes 71 instructions for a number of one digit, not 24.
     fn integer(&mut self, z: i32) {
         self.push(b' ');
         if self.size <= ROOM - LONGEST {
